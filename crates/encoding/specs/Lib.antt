@@ -1,0 +1,5 @@
+pub mod Bitmap
+pub mod Offsets
+pub mod Scalars
+pub mod Spelt
+pub mod Utf8
