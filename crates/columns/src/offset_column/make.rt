@@ -3,14 +3,14 @@ ghost use mathlib.Core.Path.{_≡_};
 ghost use mathlib.Core.Bool.{true};
 ghost use Prim.Native.Nat.{ℕ, _+_, _<_, _≤_};
 ghost use lib.ListN.{length};
-ghost use Rattle.std.specs.Options.{Cases as BySome};
 ghost use Rattle.std.specs.Orderings.{Decides};
 ghost use Rattle.std.specs.Results.{Cases};
-ghost use Rattle.encoding.specs.Offsets.{numbers, ceiling-of, place, at, Right, All-right};
+ghost use Rattle.encoding.specs.Offsets.{numbers};
 ghost use Rattle.encoding.specs.Utf8.{Text};
 ghost use Rattle.columns.specs.declared.fault.ColumnFault.the-variants.{Offset};
-ghost use Rattle.columns.specs.Lists.{covers, bytes-at};
+ghost use Rattle.columns.specs.Lists.{covers};
 ghost use Rattle.columns.specs.OffsetColumn.{First-ill-formed, Made};
+ghost use Rattle.columns.specs.Shown.{reached, bytes-shown};
 use crate::fault::ColumnFault;
 use crate::offset_column::OffsetColumn;
 use encoding::bitmap::Bitmap;
@@ -42,38 +42,35 @@ fn shaped(rows: usize, offsets: Offsets<'_>, validity: Option<Bitmap<'_>>) -> bo
     }
 }
 
-// Where row i begins, and its bytes, or nothing where its offsets break the rules.
-pub(crate) fn part<'a>(offsets: Offsets<'a>, data: &'a [u8], i: usize) -> Option<(u64, &'a [u8])>
-    ensures { λ r. ⌜ BySome r (i + 1 < length (numbers (offsets .entry)) → Right (numbers (offsets .entry)) (length (now («data» .entry))) i
-            → Right (numbers (offsets .entry)) (length (now («data» .entry))) (i + 1) → ⊥)
-        (λ p. (p .0 ≡ place (at (numbers (offsets .entry)) i)) × (now (p .1) ≡ bytes-at (numbers (offsets .entry)) (now («data» .entry)) i)) ⌝ }
+// The place that offset k names; 0 where there is none or it is negative.
+fn place_at(offsets: Offsets<'_>, k: usize) -> u64
+    ensures { λ r. ⌜ r ≡ reached (offsets .entry) k ⌝ }
 {
-    let Some(start) = offsets.get(i) else {
-        return None;
-    };
-    let Some(end) = offsets.get(i + 1) else {
-        return None;
-    };
-    if start > end {
-        return None;
+    match offsets.get(k) {
+        Some(n) => n,
+        None => 0,
     }
-    if end > data.len() as u64 {
-        return None;
-    }
-    Some((start, &data[start as usize..end as usize]))
+}
+
+// Where row i begins, and the bytes between its two offsets.
+pub(crate) fn part<'a>(offsets: Offsets<'a>, data: &'a [u8], i: usize) -> (u64, &'a [u8])
+    requires { ⌜ i < 2147483647 ⌝ }
+    ensures { λ r. ⌜ (r .0 ≡ reached (offsets .entry) i) × (now (r .1) ≡ bytes-shown (offsets .entry) (now («data» .entry)) i) ⌝ }
+{
+    let base = place_at(offsets, i);
+    let end = (place_at(offsets, i + 1) as usize).min(data.len());
+    let start = (base as usize).min(end);
+    (base, &data[start..end])
 }
 
 // Whether every row is text; else the first row that is not.
 fn check_texts(rows: usize, offsets: Offsets<'_>, data: &[u8]) -> Result<(), ColumnFault>
-    requires counted { ⌜ length (numbers offsets) ≡ rows + 1 ⌝ }
-    requires right { ⌜ All-right (numbers offsets) (ceiling-of offsets) (length (now «data»)) ⌝ }
-    ensures { λ r. ⌜ Cases r (λ _. (i : ℕ) → i < rows → Text (bytes-at (numbers (offsets .entry)) (now («data» .entry)) i))
-        (λ f. First-ill-formed (numbers (offsets .entry)) (now («data» .entry)) rows f) ⌝ }
+    requires { ⌜ rows ≤ 2147483647 ⌝ }
+    ensures { λ r. ⌜ Cases r (λ _. (i : ℕ) → i < rows → Text (bytes-shown (offsets .entry) (now («data» .entry)) i))
+        (λ f. First-ill-formed (bytes-shown (offsets .entry) (now («data» .entry))) rows f) ⌝ }
 {
     for i in 0..rows {
-        let Some((_, bytes)) = part(offsets, data, i) else {
-            return Err(ColumnFault::Shape);
-        };
+        let (_, bytes) = part(offsets, data, i);
         if let Err(fault) = utf8::check(bytes) {
             return Err(ColumnFault::Text { row: i, fault });
         }
