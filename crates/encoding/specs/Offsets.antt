@@ -1,6 +1,6 @@
 -- Offsets, and numbers in a signed width.
 use mathlib.Core.Path.{_≡_}
-use mathlib.Core.Bool.{cond}
+use mathlib.Core.Bool.{Bool, true, false, cond}
 use mathlib.Core.List.{List}
 use Prim.Native.Nat.{ℕ, zero, suc, _+_, _-_, _*_, _%_, _<_, _≤_}
 use lib.Dec.{leb}
@@ -25,6 +25,11 @@ numbers (Wide s) = now s
 abbrev pub ceiling-of : Offsets → ℕ
 ceiling-of (Narrow s) = 2147483647
 ceiling-of (Wide s) = 9223372036854775807
+
+-- whether the list has 64-bit offsets
+abbrev pub wide-of : Offsets → Bool
+wide-of (Narrow s) = false
+wide-of (Wide s) = true
 
 -- offset k
 abbrev pub at : List ℤ → ℕ → ℤ

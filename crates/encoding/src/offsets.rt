@@ -2,7 +2,7 @@
 ghost use mathlib.Core.Path.{_≡_};
 ghost use mathlib.Core.List.{map};
 ghost use lib.ListN.{length};
-ghost use Rattle.encoding.specs.Offsets.{numbers, ceiling-of, Judged, Answered};
+ghost use Rattle.encoding.specs.Offsets.{numbers, ceiling-of, wide-of, Judged, Answered};
 use crate::offset::I32Offset;
 use crate::offset::I64Offset;
 use crate::offset::Offset;
@@ -56,6 +56,16 @@ impl Offsets<'_> {
         match self {
             Offsets::Narrow(s) => s.len(),
             Offsets::Wide(s) => s.len(),
+        }
+    }
+
+    /// Whether the offsets have 64 bits.
+    pub fn is_wide(&self) -> bool
+        ensures { λ r. ⌜ r ≡ wide-of (now (self .entry)) ⌝ }
+    {
+        match self {
+            Offsets::Narrow(_) => false,
+            Offsets::Wide(_) => true,
         }
     }
 

@@ -1,7 +1,8 @@
 // A column by offsets as a source of rows, and by its lengths.
 ghost use mathlib.Core.Path.{_≡_};
 ghost use Prim.Native.Nat.{ℕ, _+_, _<_, _≤_};
-ghost use lib.ListN.{length};
+ghost use lib.ListN.{length, getD};
+ghost use Rattle.encoding.specs.Offsets.{ceiling-of, wide-of};
 ghost use Rattle.columns.specs.Lists.{valid-at};
 ghost use Rattle.columns.specs.OffsetColumn.{lists-of};
 ghost use Rattle.columns.specs.Shown.{shown, lengths-shown, readable};
@@ -36,6 +37,17 @@ fn as_marked(text: bool, bytes: &[u8]) -> &[u8]
     match utf8::check(bytes) {
         Ok(()) => bytes,
         Err(_) => &[],
+    }
+}
+
+impl OffsetColumn<'_> {
+    /// Whether its offsets have 64 bits; no row's length passes their ceiling.
+    pub fn is_wide(&self) -> bool
+        ensures value { λ r. ⌜ r ≡ wide-of (lists-of (now (self .entry)) .offsets) ⌝ }
+        ensures low { λ _. ⌜ ((i : ℕ) → i < length (lengths-shown (lists-of (now (self .entry))))
+            → getD (lengths-shown (lists-of (now (self .entry)))) i 0 ≤ ceiling-of (lists-of (now (self .entry)) .offsets)) ⌝ }
+    {
+        self.offsets.is_wide()
     }
 }
 

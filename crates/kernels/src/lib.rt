@@ -1,0 +1,2 @@
+// The kernels, generic over what is read and what is written.
+pub mod length;
