@@ -1,10 +1,12 @@
 // The two widths of offsets, under one trait.
 ghost use mathlib.Core.Path.{_≡_};
+ghost use mathlib.Core.List.{map};
 ghost use Prim.Native.Nat.{ℕ, _^_, _<_, _≤_};
 ghost use lib.IntN.{ℤ, pos};
 ghost use lib.Signed.{_<ℤ_};
 ghost use Rattle.std.specs.Options.{Cases as BySome};
-ghost use Rattle.encoding.specs.Offsets.{wrapped};
+ghost use Rattle.encoding.specs.Offsets.{numbers, ceiling-of, wrapped};
+use crate::offsets::Offsets;
 
 /// A signed width in which offsets and lengths are given: i32 or i64.
 pub trait Offset: Copy {
@@ -13,6 +15,8 @@ pub trait Offset: Copy {
     ghost ceiling: { ℕ };
 
     law small: { ceiling < 2 ^ 63 };
+
+    law least: { 2147483647 ≤ ceiling };
 
     law same: { (a b : Self) → number a ≡ number b → a ≡ b };
 
@@ -27,6 +31,11 @@ pub trait Offset: Copy {
     /// The number as an unsigned one, or nothing where it is negative.
     fn to_u64(self) -> Option<u64>
         ensures { λ r. ⌜ BySome r (number self <ℤ pos 0) (λ n. (number self ≡ pos n) × (n ≤ ceiling)) ⌝ };
+
+    /// A lent list of this width.
+    fn lend(list: &[Self]) -> Offsets<'_>
+        ensures numbers { λ r. ⌜ numbers r ≡ map number (now (list .entry)) ⌝ }
+        ensures ceiling { λ r. ⌜ ceiling-of r ≡ ceiling ⌝ };
 
     /// The number n wrapped in this width: 2,147,483,648 as an i32 is -2,147,483,648.
     fn wrapping(n: u128) -> Self
@@ -50,6 +59,10 @@ pub impl Offset for i32 as I32Offset {
         if self < 0 { None } else { Some(self as u64) }
     }
 
+    fn lend(list: &[i32]) -> Offsets<'_> {
+        Offsets::Narrow(list)
+    }
+
     fn wrapping(n: u128) -> i32 {
         ((n % 4_294_967_296) as u32).cast_signed()
     }
@@ -70,6 +83,10 @@ pub impl Offset for i64 as I64Offset {
 
     fn to_u64(self) -> Option<u64> {
         if self < 0 { None } else { Some(self as u64) }
+    }
+
+    fn lend(list: &[i64]) -> Offsets<'_> {
+        Offsets::Wide(list)
     }
 
     fn wrapping(n: u128) -> i64 {

@@ -1,0 +1,3 @@
+// Jobs: a file of records run and written out.
+pub mod fault;
+pub mod print;
