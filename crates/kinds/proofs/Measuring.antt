@@ -25,7 +25,7 @@ use Rattle.kernels.specs.declared.length.Unit as unit
 use Rattle.kernels.specs.declared.length.Unit.the-variants.{Bytes, Bits}
 use Rattle.kinds.specs.declared.fault.KindFault.{KindFault}
 use Rattle.kinds.specs.declared.fault.KindFault.the-variants.{Lacks, Length}
-use Rattle.kinds.specs.Lengths.{Measured, ceiling, room, true-lengths, bit-lengths, laid, narrow-after, wide-after, answer}
+use Rattle.kinds.specs.Lengths.{Measured, ceiling, room, Low, true-lengths, in-width, over-of, laid, narrow-after, wide-after, answer, length-answer}
 
 pub answered-err : (u : unit.Unit) (c : ℕ) (ls : List ℕ) (places : ℕ) (e : LengthFault) → Err e ≡ answered u c ls places → (e ≡ Rows) × (ltb places (length ls) ≡ true)
 answered-err u c ls places e h =
@@ -53,27 +53,23 @@ filled-laid : (u : unit.Unit) (c : ℕ) (ls : List ℕ) (out : List ℤ) → fil
 filled-laid u c ls out =
     ap (λ (n : ℕ). cond (ltb (length out) n) out (numbers-in u c ls ++ drop n out)) (sym (length-map ls (λ (n : ℕ). wrapped c (in-unit u n))))
 
--- the numbers meant are those that the kernel writes in the column's width
-abbrev pub Meant : (Measured → List ℤ) → unit.Unit → Measured → Type 0
-Meant numbers u m = numbers-in u (ceiling (m .wide)) (m .lengths) ≡ numbers m
+narrow-by : (u : unit.Unit) (w : Bool) (ls : List ℕ) (out : List ℤ)
+  → cond w out (filled u 2147483647 ls out) ≡ narrow-after (in-width u) (Some (record { wide = w; lengths = ls })) out
+narrow-by u true ls out = refl
+narrow-by u false ls out = filled-laid u 2147483647 ls out
 
-narrow-by : (numbers : Measured → List ℤ) (u : unit.Unit) (w : Bool) (ls : List ℕ) (out : List ℤ) → Meant numbers u (record { wide = w; lengths = ls })
-  → cond w out (filled u 2147483647 ls out) ≡ narrow-after numbers (Some (record { wide = w; lengths = ls })) out
-narrow-by numbers u true ls out h = refl
-narrow-by numbers u false ls out h = filled-laid u 2147483647 ls out ∙ ap (λ (xs : List ℤ). laid xs out) h
+pub narrow-is : (u : unit.Unit) (o : Option Measured) (m : Measured) (out : List ℤ) → o ≡ Some m
+  → cond (m .wide) out (filled u 2147483647 (m .lengths) out) ≡ narrow-after (in-width u) o out
+narrow-is u o m out e = narrow-by u (m .wide) (m .lengths) out ∙ ap (λ k. narrow-after (in-width u) k out) (sym e)
 
-pub narrow-is : (numbers : Measured → List ℤ) (u : unit.Unit) (o : Option Measured) (m : Measured) (out : List ℤ) → o ≡ Some m → Meant numbers u m
-  → cond (m .wide) out (filled u 2147483647 (m .lengths) out) ≡ narrow-after numbers o out
-narrow-is numbers u o m out e h = narrow-by numbers u (m .wide) (m .lengths) out h ∙ ap (λ k. narrow-after numbers k out) (sym e)
+wide-by : (u : unit.Unit) (w : Bool) (ls : List ℕ) (out : List ℤ)
+  → cond w (filled u 9223372036854775807 ls out) out ≡ wide-after (in-width u) (Some (record { wide = w; lengths = ls })) out
+wide-by u true ls out = filled-laid u 9223372036854775807 ls out
+wide-by u false ls out = refl
 
-wide-by : (numbers : Measured → List ℤ) (u : unit.Unit) (w : Bool) (ls : List ℕ) (out : List ℤ) → Meant numbers u (record { wide = w; lengths = ls })
-  → cond w (filled u 9223372036854775807 ls out) out ≡ wide-after numbers (Some (record { wide = w; lengths = ls })) out
-wide-by numbers u true ls out h = filled-laid u 9223372036854775807 ls out ∙ ap (λ (xs : List ℤ). laid xs out) h
-wide-by numbers u false ls out h = refl
-
-pub wide-is : (numbers : Measured → List ℤ) (u : unit.Unit) (o : Option Measured) (m : Measured) (out : List ℤ) → o ≡ Some m → Meant numbers u m
-  → cond (m .wide) (filled u 9223372036854775807 (m .lengths) out) out ≡ wide-after numbers o out
-wide-is numbers u o m out e h = wide-by numbers u (m .wide) (m .lengths) out h ∙ ap (λ k. wide-after numbers k out) (sym e)
+pub wide-is : (u : unit.Unit) (o : Option Measured) (m : Measured) (out : List ℤ) → o ≡ Some m
+  → cond (m .wide) (filled u 9223372036854775807 (m .lengths) out) out ≡ wide-after (in-width u) o out
+wide-is u o m out e = wide-by u (m .wide) (m .lengths) out ∙ ap (λ k. wide-after (in-width u) k out) (sym e)
 
 map-low : (c : ℕ) (ls : List ℕ) → ((i : ℕ) → i < length ls → getD ls i 0 ≤ c) → map (λ n. wrapped c n) ls ≡ map pos ls
 map-low c [] h = refl
@@ -85,10 +81,33 @@ ceiling-by : (o : Offsets) → ceiling-of o ≡ ceiling (wide-of o)
 ceiling-by (Narrow s) = refl
 ceiling-by (Wide s) = refl
 
--- lengths of an offset column fit its width, so they stand as they are
-pub meant-lengths : (o : Offsets) (m : Measured) → m .wide ≡ wide-of o → ((i : ℕ) → i < length (m .lengths) → getD (m .lengths) i 0 ≤ ceiling-of o) → Meant true-lengths Bytes m
-meant-lengths o m e h =
-    map-low (ceiling (m .wide)) (m .lengths) (λ i l. subst (λ (c : ℕ). getD (m .lengths) i 0 ≤ c) (ceiling-by o ∙ ap ceiling (sym e)) (h i l))
+pub low-is : (o : Option Measured) (m : Measured) (os : Offsets) → o ≡ Some m → m .wide ≡ wide-of os
+  → ((i : ℕ) → i < length (m .lengths) → getD (m .lengths) i 0 ≤ ceiling-of os) → Low o
+low-is o m os e q h =
+    subst Low (sym e) (λ i l. subst (λ (c : ℕ). getD (m .lengths) i 0 ≤ c) (ceiling-by os ∙ ap ceiling (sym q)) (h i l))
 
-pub meant-bits : (m : Measured) → Meant bit-lengths Bits m
-meant-bits m = refl
+-- lengths that fit their width stand as they are
+pub narrow-true : (o : Option Measured) (out : List ℤ) → Low o → narrow-after (in-width Bytes) o out ≡ narrow-after true-lengths o out
+narrow-true None out h = refl
+narrow-true (Some m) out h = ap (λ (xs : List ℤ). cond (m .wide) out (laid xs out)) (map-low (ceiling (m .wide)) (m .lengths) h)
+
+pub wide-true : (o : Option Measured) (out : List ℤ) → Low o → wide-after (in-width Bytes) o out ≡ wide-after true-lengths o out
+wide-true None out h = refl
+wide-true (Some m) out h = ap (λ (xs : List ℤ). cond (m .wide) (laid xs out) out) (map-low (ceiling (m .wide)) (m .lengths) h)
+
+-- an answer without its count
+pub answer-refused : (o : Option Measured) (ns ws : List ℤ) (f : KindFault) → Err f ≡ answer (over-of Bytes) o ns ws → Err f ≡ length-answer o ns ws
+answer-refused None ns ws f h = cc
+answer-refused (Some m) ns ws f h =
+    let t = ltb (room (m .wide) ns ws) (length (m .lengths)) in
+    elim (cases-bool t) [
+      inl q ↦ let z = h ∙ cond-true t (Err (Length Rows)) (Ok (over-of Bytes m)) q in let y : length-answer (Some m) ns ws ≡ Err (Length Rows) = cond-true t (Err (Length Rows)) (Ok tt) q in cc
+    | inr q ↦ absurd (let z = h ∙ cond-false t (Err (Length Rows)) (Ok (over-of Bytes m)) q in let w : _≡_ {A = ℕ} 0 1 = cc in omega arith) ]
+
+pub answer-granted : (o : Option Measured) (ns ws : List ℤ) (n : ℕ) → Ok n ≡ answer (over-of Bytes) o ns ws → Ok tt ≡ length-answer o ns ws
+answer-granted None ns ws n h = absurd (let w : _≡_ {A = ℕ} 0 1 = cc in omega arith)
+answer-granted (Some m) ns ws n h =
+    let t = ltb (room (m .wide) ns ws) (length (m .lengths)) in
+    elim (cases-bool t) [
+      inl q ↦ absurd (let z = h ∙ cond-true t (Err (Length Rows)) (Ok (over-of Bytes m)) q in let w : _≡_ {A = ℕ} 0 1 = cc in omega arith)
+    | inr q ↦ sym (cond-false t (Err (Length Rows)) (Ok tt) q) ]

@@ -1,20 +1,20 @@
 -- Lengths by kind: which list they go to, what is written there, and what is answered.
 use mathlib.Core.Bool.{Bool, true, false, cond}
 use mathlib.Core.List.{List, _++_, map}
-use Prim.Native.Nat.{ℕ, _*_}
+use Prim.Native.Nat.{ℕ, _<_, _≤_}
 use lib.Dec.{ltb}
 use lib.IntN.{ℤ, pos}
-use lib.ListN.{length, drop}
+use lib.ListN.{length, drop, getD}
 use Rattle.std.specs.declared.option.Option.{Option}
 use Rattle.std.specs.declared.option.Option.the-variants.{Some, None}
 use Rattle.std.specs.declared.result.Result.{Result}
 use Rattle.std.specs.declared.result.Result.the-variants.{Ok, Err}
-use Rattle.encoding.specs.Offsets.{wide-of, wrapped}
+use Rattle.encoding.specs.Offsets.{wide-of}
 use Rattle.columns.specs.OffsetColumn.{lists-of}
 use Rattle.columns.specs.Shown.{lengths-shown}
-use Rattle.kernels.specs.Lengths.{over-in}
+use Rattle.kernels.specs.Lengths.{numbers-in, over-in}
 use Rattle.kernels.specs.declared.length.LengthFault.the-variants.{Rows}
-use Rattle.kernels.specs.declared.length.Unit.the-variants.{Bits}
+use Rattle.kernels.specs.declared.length.Unit as unit
 use Rattle.kinds.specs.declared.column.Column.{Column}
 use Rattle.kinds.specs.declared.column.Column.the-variants.{Offset, Unbuilt}
 use Rattle.kinds.specs.declared.fault.KindFault.{KindFault}
@@ -38,12 +38,21 @@ ceiling wide = cond wide 9223372036854775807 2147483647
 abbrev pub room : Bool → List ℤ → List ℤ → ℕ
 room wide ns ws = cond wide (length ws) (length ns)
 
--- the numbers to be written: the lengths as they are, or eight times as much wrapped in the width
+-- the numbers to be written: the lengths as they are, and the lengths in a unit, wrapped in the width
 abbrev pub true-lengths : Measured → List ℤ
 true-lengths m = map pos (m .lengths)
 
-abbrev pub bit-lengths : Measured → List ℤ
-bit-lengths m = map (λ n. wrapped (ceiling (m .wide)) (8 * n)) (m .lengths)
+abbrev pub in-width : unit.Unit → Measured → List ℤ
+in-width u m = numbers-in u (ceiling (m .wide)) (m .lengths)
+
+-- how many rows' lengths in the unit do not fit the width, null rows counted too
+abbrev pub over-of : unit.Unit → Measured → ℕ
+over-of u m = over-in u (ceiling (m .wide)) (m .lengths)
+
+-- every length itself fits the width
+abbrev pub Low : Option Measured → Type 0
+Low None = Unit {0}
+Low (Some m) = (i : ℕ) → i < length (m .lengths) → getD (m .lengths) i 0 ≤ ceiling (m .wide)
 
 -- numbers laid over the front of a list; a list too short for them stays as it is
 abbrev pub laid : List ℤ → List ℤ → List ℤ
@@ -65,7 +74,3 @@ answer counted (Some m) ns ws = cond (ltb (room (m .wide) ns ws) (length (m .len
 
 abbrev pub length-answer : Option Measured → List ℤ → List ℤ → Result (Unit {0}) KindFault
 length-answer m ns ws = answer (λ _. tt) m ns ws
-
--- how many rows' bit lengths do not fit the width, null rows counted too
-abbrev pub bit-answer : Option Measured → List ℤ → List ℤ → Result ℕ KindFault
-bit-answer m ns ws = answer (λ k. over-in Bits (ceiling (k .wide)) (k .lengths)) m ns ws

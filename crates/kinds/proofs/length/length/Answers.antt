@@ -1,48 +1,25 @@
 use mathlib.Core.Path.{_≡_, refl, sym, _∙_, ap}
-use mathlib.Core.Bool.{Bool}
-use Rattle.std.specs.declared.option.Option.the-variants.{Some}
 use Rattle.std.specs.declared.result.Result.the-variants.{Ok, Err}
 use Rattle.std.proofs.shelf.Results.{err-from-errBy}
-use Rattle.kernels.specs.declared.length.Unit.the-variants.{Bytes, Bits}
-use Rattle.columns.specs.OffsetColumn.{lists-of}
-use Rattle.columns.specs.Shown.{lengths-shown}
-use Rattle.kinds.specs.declared.fault.KindFault.the-variants.{Length}
-use Rattle.kinds.specs.Lengths.{Measured, measured, ceiling, room, true-lengths, bit-lengths, narrow-after, wide-after}
-use Rattle.kinds.proofs.Measuring.{answered-err, answered-ok, answer-err, answer-ok, narrow-is, wide-is, Meant, meant-lengths, meant-bits}
-use Rattle.kinds.proofs.length.length.Needs.{After-measure}
+use Rattle.kinds.specs.Lengths.{measured}
+use Rattle.kinds.proofs.Measuring.{narrow-true, wide-true, answer-refused, answer-granted}
 use Rattle.kinds.proofs.length.length.Needs as need
-
--- what is measured of the column
-abbrev of : After-measure → Measured
-of c = record { wide = c .is-wide-is-wide .result; lengths = lengths-shown (lists-of (c .in-Offset .c)) }
-
-is : (c : After-measure) → measured (c .args .column .now) ≡ Some (of c)
-is c = ap measured (c .in-Offset .is) ∙ ap (λ (b : Bool). Some (record { wide = b; lengths = lengths-shown (lists-of (c .in-Offset .c)) })) (sym (c .is-wide-is-wide .ensures .value))
-
-meant : (c : After-measure) → Meant true-lengths Bytes (of c)
-meant c = meant-lengths (lists-of (c .in-Offset .c) .offsets) (of c) (c .is-wide-is-wide .ensures .value) (c .is-wide-is-wide .ensures .low)
-
-narrow-list : (c : After-measure) → c .measure .last .narrow ≡ narrow-after true-lengths (measured (c .args .column .now)) (c .args .narrow .now)
-narrow-list c = c .measure .ensures .narrow ∙ narrow-is true-lengths Bytes (measured (c .args .column .now)) (of c) (c .args .narrow .now) (is c) (meant c)
-
-wide-list : (c : After-measure) → c .measure .last .wide ≡ wide-after true-lengths (measured (c .args .column .now)) (c .args .wide .now)
-wide-list c = c .measure .ensures .wide ∙ wide-is true-lengths Bytes (measured (c .args .column .now)) (of c) (c .args .wide .now) (is c) (meant c)
 
 pub returns-in-Break-measure : need.returns-in-Break-measure
 returns-in-Break-measure c =
-    let a = need.at·returns-in-Break-measure c .After-measure in
     let p = err-from-errBy (c .from-residual .result) (c .from-residual .ensures .1) in
-    let k = answered-err Bytes (ceiling (of a .wide)) (of a .lengths) (room (of a .wide) (c .args .narrow .now) (c .args .wide .now)) _ (c .in-Break-measure .ensures tt .answer) in
+    let m = measured (c .args .column .now) in
+    let h = c .in-Break-measure .ensures tt in
     record {
-      answer = p .1 ∙ ap Err (p .2 ∙ ap Length (k .0)) ∙ answer-err (λ _. tt) (measured (c .args .column .now)) (of a) (c .args .narrow .now) (c .args .wide .now) (is a) (k .1);
-      narrow = narrow-list a;
-      wide = wide-list a }
+      answer = p .1 ∙ ap Err (p .2) ∙ answer-refused m (c .args .narrow .now) (c .args .wide .now) _ (h .answer);
+      narrow = h .narrow ∙ narrow-true m (c .args .narrow .now) (h .low);
+      wide = h .wide ∙ wide-true m (c .args .wide .now) (h .low) }
 
-pub returns-in-Continue-measure : need.returns-in-Continue-measure
-returns-in-Continue-measure c =
-    let a = need.at·returns-in-Continue-measure c .After-measure in
-    let k = answered-ok Bytes (ceiling (of a .wide)) (of a .lengths) (room (of a .wide) (c .args .narrow .now) (c .args .wide .now)) _ (c .in-Continue-measure .ensures tt .answer) in
+pub returns : need.returns
+returns c =
+    let m = measured (c .args .column .now) in
+    let h = c .in-Continue-measure .ensures tt in
     record {
-      answer = answer-ok (λ _. tt) (measured (c .args .column .now)) (of a) (c .args .narrow .now) (c .args .wide .now) (is a) (k .1);
-      narrow = narrow-list a;
-      wide = wide-list a }
+      answer = answer-granted m (c .args .narrow .now) (c .args .wide .now) _ (h .answer);
+      narrow = h .narrow ∙ narrow-true m (c .args .narrow .now) (h .low);
+      wide = h .wide ∙ wide-true m (c .args .wide .now) (h .low) }

@@ -1,29 +1,49 @@
 use mathlib.Core.Path.{_≡_, refl, sym, _∙_, ap}
 use mathlib.Core.Bool.{Bool}
-use Rattle.std.proofs.shelf.Lists.{map-id}
-use Rattle.std.proofs.shelf.Tests.{cond-true, cond-false}
-use Rattle.kernels.specs.Lengths.{answered, filled}
-use Rattle.kinds.specs.Lengths.{ceiling, room}
+use Rattle.std.specs.declared.option.Option.the-variants.{Some}
+use Rattle.std.specs.declared.result.Result.the-variants.{Ok, Err}
+use Rattle.std.proofs.shelf.Results.{err-from-errBy}
+use Rattle.columns.specs.OffsetColumn.{lists-of}
+use Rattle.columns.specs.Shown.{lengths-shown}
+use Rattle.kinds.specs.declared.fault.KindFault.the-variants.{Length}
+use Rattle.kinds.specs.Lengths.{Measured, measured, ceiling, room, Low, in-width, over-of, narrow-after, wide-after}
+use Rattle.kinds.proofs.Measuring.{answered-err, answered-ok, answer-err, answer-ok, narrow-is, wide-is, low-is}
+use Rattle.kinds.proofs.length.measure.Needs.{After-choose}
 use Rattle.kinds.proofs.length.measure.Needs as need
 
-pub returns-then-is-wide : need.returns-then-is-wide
-returns-then-is-wide g c =
-    let ls = g .M·Measure .lengths (c .args .column .now) in
-    let ns = c .args .narrow .now in
-    let ws = c .args .wide .now in
-    record {
-      answer = c .fill .ensures .answer ∙ ap (λ (b : Bool). answered (c .args .unit) (ceiling b) ls (room b ns ws)) (sym (c .if-is-wide .taken));
-      narrow = sym (cond-true (c .args .is-wide) ns _ (c .if-is-wide .taken));
-      wide = sym (map-id _) ∙ c .fill .ensures .after ∙ ap (filled (c .args .unit) 9223372036854775807 ls) (map-id ws)
-        ∙ sym (cond-true (c .args .is-wide) _ ws (c .if-is-wide .taken)) }
+-- what is measured of the column
+abbrev of : After-choose → Measured
+of c = record { wide = c .is-wide-is-wide .result; lengths = lengths-shown (lists-of (c .in-Offset .c)) }
 
-pub returns-else-is-wide : need.returns-else-is-wide
-returns-else-is-wide g c =
-    let ls = g .M·Measure .lengths (c .args .column .now) in
-    let ns = c .args .narrow .now in
-    let ws = c .args .wide .now in
+is : (c : After-choose) → measured (c .args .column .now) ≡ Some (of c)
+is c = ap measured (c .in-Offset .is) ∙ ap (λ (b : Bool). Some (record { wide = b; lengths = lengths-shown (lists-of (c .in-Offset .c)) })) (sym (c .is-wide-is-wide .ensures .value))
+
+narrow-list : (c : After-choose) → c .choose .last .narrow ≡ narrow-after (in-width (c .args .unit)) (measured (c .args .column .now)) (c .args .narrow .now)
+narrow-list c = c .choose .ensures .narrow ∙ narrow-is (c .args .unit) (measured (c .args .column .now)) (of c) (c .args .narrow .now) (is c)
+
+wide-list : (c : After-choose) → c .choose .last .wide ≡ wide-after (in-width (c .args .unit)) (measured (c .args .column .now)) (c .args .wide .now)
+wide-list c = c .choose .ensures .wide ∙ wide-is (c .args .unit) (measured (c .args .column .now)) (of c) (c .args .wide .now) (is c)
+
+low-all : (c : After-choose) → Low (measured (c .args .column .now))
+low-all c = low-is (measured (c .args .column .now)) (of c) (lists-of (c .in-Offset .c) .offsets) (is c) (c .is-wide-is-wide .ensures .value) (c .is-wide-is-wide .ensures .low)
+
+pub returns-in-Break-over : need.returns-in-Break-over
+returns-in-Break-over c =
+    let a = need.at·returns-in-Break-over c .After-choose in
+    let p = err-from-errBy (c .from-residual .result) (c .from-residual .ensures .1) in
+    let k = answered-err (c .args .unit) (ceiling (of a .wide)) (of a .lengths) (room (of a .wide) (c .args .narrow .now) (c .args .wide .now)) _ (c .in-Break-over .ensures tt .answer) in
     record {
-      answer = c .fill-else-is-wide .ensures .answer ∙ ap (λ (b : Bool). answered (c .args .unit) (ceiling b) ls (room b ns ws)) (sym (c .if-is-wide .left));
-      narrow = sym (map-id _) ∙ c .fill-else-is-wide .ensures .after ∙ ap (filled (c .args .unit) 2147483647 ls) (map-id ns)
-        ∙ sym (cond-false (c .args .is-wide) ns _ (c .if-is-wide .left));
-      wide = sym (cond-false (c .args .is-wide) _ ws (c .if-is-wide .left)) }
+      answer = p .1 ∙ ap Err (p .2 ∙ ap Length (k .0)) ∙ answer-err (over-of (c .args .unit)) (measured (c .args .column .now)) (of a) (c .args .narrow .now) (c .args .wide .now) (is a) (k .1);
+      narrow = narrow-list a;
+      wide = wide-list a;
+      low = low-all a }
+
+pub returns-in-Continue-over : need.returns-in-Continue-over
+returns-in-Continue-over c =
+    let a = need.at·returns-in-Continue-over c .After-choose in
+    let k = answered-ok (c .args .unit) (ceiling (of a .wide)) (of a .lengths) (room (of a .wide) (c .args .narrow .now) (c .args .wide .now)) _ (c .in-Continue-over .ensures tt .answer) in
+    record {
+      answer = ap Ok (k .0) ∙ answer-ok (over-of (c .args .unit)) (measured (c .args .column .now)) (of a) (c .args .narrow .now) (c .args .wide .now) (is a) (k .1);
+      narrow = narrow-list a;
+      wide = wide-list a;
+      low = low-all a }
