@@ -1,1 +1,5 @@
+pub mod Finding
+pub mod FromRows
+pub mod Gathering
+pub mod Growing
 pub mod Measuring

@@ -13,3 +13,12 @@ number NotRead = 18
 number File = 19
 number (Column f) = columns.number f
 number (Kind f) = kinds.number f
+
+-- a column that cannot be made counts as not read
+abbrev pub unread-of : JobFault → JobFault
+unread-of Memory = Memory
+unread-of Record = NotRead
+unread-of NotRead = NotRead
+unread-of File = File
+unread-of (Column f) = NotRead
+unread-of (Kind f) = Kind f

@@ -1,4 +1,6 @@
 pub mod Faults
+pub mod Gathered
 pub mod Lines
 pub mod Measured
+pub mod States
 pub mod Transcript

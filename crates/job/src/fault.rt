@@ -1,5 +1,6 @@
 // Why a job's operation, column or file is refused.
 ghost use mathlib.Core.Path.{_≡_};
+ghost use Rattle.job.specs.Faults.{unread-of};
 ghost use Rattle.job.specs.declared.fault.JobFault.the-variants.{Memory, Record, Column, Kind};
 use records::record::BadRecord;
 use columns::fault::ColumnFault;
@@ -65,5 +66,21 @@ pub impl From<KindFault> for JobFault as JobFromKind {
 
     fn from(e: KindFault) -> JobFault {
         JobFault::Kind(e)
+    }
+}
+
+impl JobFault {
+    /// The fault as a later operation meets it: a column that could not be made counts as not read.
+    pub fn unread(self) -> JobFault
+        ensures { λ r. ⌜ r ≡ unread-of self ⌝ }
+    {
+        match self {
+            JobFault::Memory => JobFault::Memory,
+            JobFault::Record => JobFault::NotRead,
+            JobFault::NotRead => JobFault::NotRead,
+            JobFault::File => JobFault::File,
+            JobFault::Column(_) => JobFault::NotRead,
+            JobFault::Kind(fault) => JobFault::Kind(fault),
+        }
     }
 }

@@ -1,4 +1,8 @@
 // Jobs: a file of records run and written out.
+pub mod column;
+pub mod entry;
 pub mod fault;
+pub mod gather;
 pub mod lengths;
 pub mod print;
+pub mod run;

@@ -77,7 +77,7 @@ map-low c (n ∷ ls) h =
     ap (λ (z : ℤ). z ∷ map (λ k. wrapped c k) ls) (wrapped-fits c n (h 0 (omega arith)))
     ∙ ap (λ zs. pos n ∷ zs) (map-low c ls (λ i l. h (suc i) (omega arith)))
 
-ceiling-by : (o : Offsets) → ceiling-of o ≡ ceiling (wide-of o)
+pub ceiling-by : (o : Offsets) → ceiling-of o ≡ ceiling (wide-of o)
 ceiling-by (Narrow s) = refl
 ceiling-by (Wide s) = refl
 

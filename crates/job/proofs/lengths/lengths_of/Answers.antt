@@ -8,9 +8,10 @@ use Rattle.std.proofs.shelf.Results.{err-from-errBy}
 use Rattle.encoding.specs.Offsets.{wide-of}
 use Rattle.columns.specs.OffsetColumn.{lists-of}
 use Rattle.columns.specs.Shown.{lengths-shown}
-use Rattle.kernels.specs.Lengths.{numbers-in}
+use Rattle.kernels.specs.Lengths.{numbers-in, over-in}
 use Rattle.kinds.specs.Lengths.{ceiling, room}
 use Rattle.kinds.specs.declared.fault.KindFault.{KindFault}
+use Rattle.kinds.proofs.Measuring.{ceiling-by}
 use Rattle.std.specs.declared.result.Result.the-variants.{Ok, Err}
 use Rattle.job.specs.declared.fault.JobFault.the-variants.{Kind}
 use Rattle.job.specs.Measured.{Measured-as}
@@ -58,8 +59,9 @@ returns c =
      record {
        rows-are = c .len-rows .ensures;
        nulls-are = c .count-nulls-nulls .ensures;
-       wrapped-are = h .0;
+       wrapped-are = h .0 ∙ ap (λ (x : ℕ). over-in u x ls) (sym (ceiling-by (l .offsets)));
        numbers-are = c .in-Continue-numbers .ensures tt
          ∙ ap (λ (n : ℕ). take n (cond (c .is-wide-is-wide .result) (c .measure .last .wide) (c .measure .last .narrow))) (c .len-rows .ensures)
          ∙ ap (λ (b : Bool). take (length ls) (cond b (c .measure .last .wide) (c .measure .last .narrow))) (c .is-wide-is-wide .ensures .value)
-         ∙ front-is u w ls ns ws (c .measure .last .narrow) (c .measure .last .wide) (c .pre .places .0) (c .pre .places .1) (h .1) (k .narrow) (k .wide) })
+         ∙ front-is u w ls ns ws (c .measure .last .narrow) (c .measure .last .wide) (c .pre .places .0) (c .pre .places .1) (h .1) (k .narrow) (k .wide)
+         ∙ ap (λ (x : ℕ). numbers-in u x ls) (sym (ceiling-by (l .offsets))) })
