@@ -2,5 +2,8 @@ pub mod Faults
 pub mod Gathered
 pub mod Lines
 pub mod Measured
+pub mod Printed
 pub mod States
+pub mod Steps
+pub mod Taken
 pub mod Transcript

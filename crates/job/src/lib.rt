@@ -4,5 +4,7 @@ pub mod entry;
 pub mod fault;
 pub mod gather;
 pub mod lengths;
+pub mod operate;
 pub mod print;
 pub mod run;
+pub mod taking;

@@ -12,7 +12,7 @@ use Rattle.std.specs.shelf.Lists.{joined}
 use Rattle.std.proofs.shelf.Lists.{take-all, take-more, joined-more}
 use Rattle.std.proofs.shelf.Signed.{ints}
 use Rattle.job.specs.Lines.{number-line}
-use Rattle.job.proofs.run.put_numbers.Needs as need
+use Rattle.job.proofs.operate.put_numbers.Needs as need
 
 one-more : (start before after : List ℕ) (ns : List ℤ) (i : ℕ) (x : ℤ) → before ≡ start ++ joined number-line (take i ns) → after ≡ before ++ number-line x
   → i < length ns → x ≡ getD ns i (pos 0) → after ≡ start ++ joined number-line (take (i + 1) ns)
