@@ -23,9 +23,16 @@ pub refused-text : (l : Lists) (f : ColumnFault) → Shaped l → Ordered l → 
 refused-text l Shape s o t h = absurd h
 refused-text l (Offset row) s o t h = absurd h
 refused-text l (View row) s o t h = absurd h
-refused-text l (Text row fault) s o t h =
-    (s, o, t, (h .0, λ i k. subst utf8.Text (bytes-same l i s o (omega (arith, h .0, k))) (h .1 i k),
-      subst (λ (b : List ℕ). Unreadable b (fault .place)) (bytes-same l row s o (h .0)) (h .2)))
+refused-text l (Text row fault) s o t h = (
+  s,
+  o,
+  t,
+  (
+    h .0,
+    λ i k. subst utf8.Text (bytes-same l i s o (omega (arith, h .0, k))) (h .1 i k),
+    subst (λ (b : List ℕ). Unreadable b (fault .place)) (bytes-same l row s o (h .0)) (h .2),
+  ),
+)
 
 pub texts-shown : (l : Lists) → Shaped l → Ordered l → ((i : ℕ) → i < l .rows → utf8.Text (bytes-shown (l .offsets) (l .content) i)) → Texts-to l (l .rows)
 texts-shown l s o h = λ e i k. subst utf8.Text (bytes-same l i s o k) (h i k)

@@ -28,17 +28,19 @@ use Rattle.columns.specs.Shown.{reached, bytes-shown, readable, count-shown, r
 pub part-clamped : (ds : List ℕ) (a b : ℕ) → take (min b (length ds) - min a (min b (length ds))) (drop (min a (min b (length ds))) ds) ≡ between a b ds
 part-clamped ds a b =
     elim (cases-lt (min b (length ds)) a) [
-      inl h ↦
-        let none : (k : ℕ) → length (between a b ds) ≡ 0 = λ k. length-take (b - a) (drop a ds) ∙ omega (arith, length-drop a ds) in
-        let s : min a (min b (length ds)) ≡ min b (length ds) = omega arith in
-        nil-both (take (min b (length ds) - min a (min b (length ds))) (drop (min a (min b (length ds))) ds)) (between a b ds)
+      | inl h ↦
+          let none : (k : ℕ) → length (between a b ds) ≡ 0 = λ k. length-take (b - a) (drop a ds) ∙ omega (arith, length-drop a ds) in
+          let s : min a (min b (length ds)) ≡ min b (length ds) = omega arith in
+          nil-both (take (min b (length ds) - min a (min b (length ds))) (drop (min a (min b (length ds))) ds)) (between a b ds)
           (length-take _ (drop (min a (min b (length ds))) ds) ∙ omega arith) (none 0)
-    | inr h ↦
-        let s : min a (min b (length ds)) ≡ a = omega arith in
-        ap (λ (x : ℕ). take (min b (length ds) - x) (drop x ds)) s
-        ∙ elim (cases-lt (length ds) b) [
-            inl l ↦ take-all (min b (length ds) - a) (drop a ds) (omega (arith, length-drop a ds)) ∙ sym (take-all (b - a) (drop a ds) (omega (arith, length-drop a ds)))
-          | inr l ↦ ap (λ (x : ℕ). take (x - a) (drop a ds)) (omega arith) ] ]
+      | inr h ↦
+          let s : min a (min b (length ds)) ≡ a = omega arith in
+          ap (λ (x : ℕ). take (min b (length ds) - x) (drop x ds)) s
+          ∙ elim (cases-lt (length ds) b) [
+            | inl l ↦ take-all (min b (length ds) - a) (drop a ds) (omega (arith, length-drop a ds)) ∙ sym (take-all (b - a) (drop a ds) (omega (arith, length-drop a ds)))
+            | inr l ↦ ap (λ (x : ℕ). take (x - a) (drop a ds)) (omega arith)
+          ]
+    ]
   where
     nil-both : (xs ys : List ℕ) → length xs ≡ 0 → length ys ≡ 0 → xs ≡ ys
     nil-both [] [] p q = refl
@@ -59,15 +61,17 @@ length-readable : (t : Bool) (s : List ℕ) → length (readable t s) ≤ length
 length-readable false s = omega arith
 length-readable true s =
     elim (cases-bool (is-text s)) [
-      inl e ↦ omega (arith, ap length (cond-true (is-text s) s [] e))
-    | inr e ↦ omega (arith, ap length (cond-false (is-text s) s [] e)) ]
+      | inl e ↦ omega (arith, ap length (cond-true (is-text s) s [] e))
+      | inr e ↦ omega (arith, ap length (cond-false (is-text s) s [] e))
+    ]
 
 readable-text : (t : Bool) (s : List ℕ) → t ≡ true → Text (readable t s)
 readable-text false s e = absurd (let z : _≡_ {A = ℕ} 0 1 = cc in omega arith)
 readable-text true s e =
     elim (cases-bool (is-text s)) [
-      inl q ↦ subst Text (sym (cond-true (is-text s) s [] q)) (text-from s q)
-    | inr q ↦ subst Text (sym (cond-false (is-text s) s [] q)) (0, none) ]
+      | inl q ↦ subst Text (sym (cond-true (is-text s) s [] q)) (text-from s q)
+      | inr q ↦ subst Text (sym (cond-false (is-text s) s [] q)) (0, none)
+    ]
 
 pub readable-same : (t : Bool) (s : List ℕ) → (t ≡ true → Text s) → readable t s ≡ s
 readable-same false s h = refl
@@ -99,13 +103,18 @@ good l =
     record {
       few = omega (arith, n);
       reach = λ i d h.
-        let e = row-in l i d (omega (arith, n, h)) in
-        subst (λ (r : Source-row). r .base + length (r .bytes) ≤ 9223372036854775807) (sym e)
-          (omega (arith, length-readable (l .text) (bytes-shown (l .offsets) (l .content) i),
-            length-between (reached (l .offsets) i) (reached (l .offsets) (i + 1)) (l .content), ceiling-small (l .offsets)));
+          let e = row-in l i d (omega (arith, n, h)) in
+          subst (λ (r : Source-row). r .base + length (r .bytes) ≤ 9223372036854775807) (sym e)
+          (omega (
+            arith,
+            length-readable (l .text) (bytes-shown (l .offsets) (l .content) i),
+            length-between (reached (l .offsets) i) (reached (l .offsets) (i + 1)) (l .content),
+            ceiling-small (l .offsets),
+          ));
       texts = λ t i d h.
-        subst (λ (r : Source-row). Text (r .bytes)) (sym (row-in l i d (omega (arith, n, h))))
-          (readable-text (l .text) (bytes-shown (l .offsets) (l .content) i) (sym (shown-text l) ∙ t)) }
+          subst (λ (r : Source-row). Text (r .bytes)) (sym (row-in l i d (omega (arith, n, h))))
+          (readable-text (l .text) (bytes-shown (l .offsets) (l .content) i) (sym (shown-text l) ∙ t));
+    }
 
 -- ---- lists that keep the rules
 
@@ -146,7 +155,7 @@ pub rows-shown : (l : Lists) → Shaped l → Ordered l → Texts-to l (l .rows)
 unfolding shown meaning-of
 rows-shown l s o t =
     let r = ap (λ (n : ℕ). map (row-shown l) (counting 0 n)) (count-same l s)
-      ∙ counting-same (row-shown l) (row-at l) (l .rows) (λ k h. row-same l k s o t h) in
+    ∙ counting-same (row-shown l) (row-at l) (l .rows) (λ k h. row-same l k s o t h) in
     λ j. record { text = l .text; rows = r j }
 
 map-map : {X Y Z : Type 0} (f : X → Y) (g : Y → Z) (xs : List X) → map g (map f xs) ≡ map (λ x. g (f x)) xs
@@ -164,5 +173,6 @@ pub readable-none : (t : Bool) (s : List ℕ) → t ≡ true → (Text s → ⊥
 readable-none false s e h = absurd (let z : _≡_ {A = ℕ} 0 1 = cc in omega arith)
 readable-none true s e h =
     elim (cases-bool (is-text s)) [
-      inl q ↦ absurd (h (text-from s q))
-    | inr q ↦ sym (cond-false (is-text s) s [] q) ]
+      | inl q ↦ absurd (h (text-from s q))
+      | inr q ↦ sym (cond-false (is-text s) s [] q)
+    ]

@@ -42,7 +42,7 @@ Refused l Shape = Shaped l → ⊥
 Refused l (Offset row) = Shaped l × ((k : ℕ) × First-wrong (numbers (l .offsets)) (length (l .content)) k × (row ≡ k - 1))
 Refused l (View row) = ⊥
 Refused l (Text row fault) =
-  Shaped l × Ordered l × (l .text ≡ true) × First-ill-formed (bytes-at (numbers (l .offsets)) (l .content)) (l .rows) (Text row fault)
+    Shaped l × Ordered l × (l .text ≡ true) × First-ill-formed (bytes-at (numbers (l .offsets)) (l .content)) (l .rows) (Text row fault)
 
 -- making a column answers it exactly when no ground holds
 abbrev pub Made : Lists → Result OffsetColumn ColumnFault → Type 0

@@ -45,12 +45,15 @@ three-from {a} {b} {c} h k t =
     let lo : 224 ≤ a = grind (arith, tells) in
     let hi : a < 240 = grind (arith, tells) in
     elim (cases-lt a 225) [
-      inl l ↦ utf8-3a (omega arith) (grind (arith, tells), grind (arith, tells)) t
-    | inr g ↦ elim (cases-lt a 237) [
-        inl l ↦ utf8-3b (omega arith, omega arith) (grind (arith, tells), grind (arith, tells)) t
-      | inr g2 ↦ elim (cases-lt a 238) [
-          inl l ↦ utf8-3c (omega arith) (grind (arith, tells), grind (arith, tells)) t
-        | inr g3 ↦ utf8-3d (omega arith, omega arith) (grind (arith, tells), grind (arith, tells)) t ] ] ]
+      | inl l ↦ utf8-3a (omega arith) (grind (arith, tells), grind (arith, tells)) t
+      | inr g ↦ elim (cases-lt a 237) [
+        | inl l ↦ utf8-3b (omega arith, omega arith) (grind (arith, tells), grind (arith, tells)) t
+        | inr g2 ↦ elim (cases-lt a 238) [
+          | inl l ↦ utf8-3c (omega arith) (grind (arith, tells), grind (arith, tells)) t
+          | inr g3 ↦ utf8-3d (omega arith, omega arith) (grind (arith, tells), grind (arith, tells)) t
+        ]
+      ]
+    ]
 
 pub four-to : {a b c d : ℕ} → Char (a ∷ b ∷ c ∷ d ∷ []) → (size-of a ≡ 4) × Second a b × Tail c × Tail d
 four-to (utf8-4a h k t u) = (grind (arith, tells), (grind (arith, tells), grind (arith, tells)), t, u)
@@ -62,10 +65,12 @@ four-from {a} {b} {c} {d} h k t u =
     let lo : 240 ≤ a = grind (arith, tells) in
     let hi : a < 245 = grind (arith, tells) in
     elim (cases-lt a 241) [
-      inl l ↦ utf8-4a (omega arith) (grind (arith, tells), grind (arith, tells)) t u
-    | inr g ↦ elim (cases-lt a 244) [
-        inl l ↦ utf8-4b (omega arith, omega arith) (grind (arith, tells), grind (arith, tells)) t u
-      | inr g2 ↦ utf8-4c (omega arith) (grind (arith, tells), grind (arith, tells)) t u ] ]
+      | inl l ↦ utf8-4a (omega arith) (grind (arith, tells), grind (arith, tells)) t u
+      | inr g ↦ elim (cases-lt a 244) [
+        | inl l ↦ utf8-4b (omega arith, omega arith) (grind (arith, tells), grind (arith, tells)) t u
+        | inr g2 ↦ utf8-4c (omega arith) (grind (arith, tells), grind (arith, tells)) t u
+      ]
+    ]
 
 -- a character has one to four bytes
 pub char-size : {c : List ℕ} → Char c → (1 ≤ length c) × (length c ≤ 4)

@@ -65,15 +65,23 @@ begins-boundary s p k b =
     let t = b .1 in
     let n : length s ≡ length a + length t = ap length (b .2) ∙ length-append a t in
     elim (cases-lt p (length s)) [
-      inl l ↦ inr (inr (l, λ u. text-leads (b .5 .1) (omega (arith, b .3))
-        (subst Tail (ap (λ (x : List ℕ). getD x p 0) (b .2) ∙ getD-append-right a t p p 0 (b .3) (omega arith) ∙ ap (λ (i : ℕ). getD t i 0) (omega arith)) u)))
-    | inr g ↦ inr (inl (omega (arith, b .3))) ]
+      | inl l ↦ inr (inr (
+        l,
+        λ u. text-leads (b .5 .1) (omega (arith, b .3))
+            (subst Tail (ap (λ (x : List ℕ). getD x p 0) (b .2) ∙ getD-append-right a t p p 0 (b .3) (omega arith) ∙ ap (λ (i : ℕ). getD t i 0) (omega arith)) u),
+      ))
+      | inr g ↦ inr (inl (omega (arith, b .3)))
+    ]
 
 later : {c t s : List ℕ} (p k : ℕ) → Char c → s ≡ c ++ t → Begins t k p → Begins s (suc k) (length c + p)
-later {c} {t} {s} p k h e b =
-    (c ++ b .0, b .1, e ∙ ap (λ (x : List ℕ). c ++ x) (b .2) ∙ sym (append-assoc c (b .0) (b .1)),
-     omega (arith, length-append c (b .0), b .3),
-     more h (b .4) refl, b .5)
+later {c} {t} {s} p k h e b = (
+  c ++ b .0,
+  b .1,
+  e ∙ ap (λ (x : List ℕ). c ++ x) (b .2) ∙ sym (append-assoc c (b .0) (b .1)),
+  omega (arith, length-append c (b .0), b .3),
+  more h (b .4) refl,
+  b .5,
+)
 
 begins-zero : {n : ℕ} {s : List ℕ} (p : ℕ) → Chars n s → p ≡ 0 → (k : ℕ) × Begins s k p
 begins-zero {n} {s} p h e = (0, ([], s, refl, sym e, none, (n, h)))
@@ -89,8 +97,10 @@ past : (c t s : List ℕ) (p : ℕ) → Char c → s ≡ c ++ t → Boundary s p
 past c t s p h e (inl z) l = absurd (omega (arith, char-size h .0))
 past c t s p h e (inr (inl z)) l = inr (inl (omega (arith, ap length e, length-append c t)))
 past c t s p h e (inr (inr z)) l =
-    inr (inr (omega (arith, z .0, ap length e, length-append c t),
-      λ u. z .1 (subst Tail (sym (ap (λ (x : List ℕ). getD x p 0) e ∙ getD-append-right c t (length c) p 0 refl l)) u)))
+    inr (inr (
+      omega (arith, z .0, ap length e, length-append c t),
+      λ u. z .1 (subst Tail (sym (ap (λ (x : List ℕ). getD x p 0) e ∙ getD-append-right c t (length c) p 0 refl l)) u),
+    ))
 
 boundary-begins : {n : ℕ} {s : List ℕ} (p : ℕ) → Chars n s → Boundary s p → (k : ℕ) × Begins s k p
 boundary-begins p none (inl e) = begins-zero p none e
@@ -98,10 +108,11 @@ boundary-begins p none (inr (inl e)) = begins-zero p none e
 boundary-begins p none (inr (inr e)) = absurd (omega (arith, e .0))
 boundary-begins p (more {n = n} {c = c} {t = t} {s = s} h r e) q =
     elim (cases-lt p (length c)) [
-      inl l ↦ elim (cases-lt 0 p) [ inl z ↦ absurd (outside c t s p h e q z l) | inr z ↦ begins-zero p (more h r e) (omega arith) ]
-    | inr g ↦
-        let b = boundary-begins (p - length c) r (past c t s p h e q g) in
-        (suc (b .0), subst (Begins s (suc (b .0))) (omega arith) (later (p - length c) (b .0) h e (b .1))) ]
+      | inl l ↦ elim (cases-lt 0 p) [ inl z ↦ absurd (outside c t s p h e q z l) | inr z ↦ begins-zero p (more h r e) (omega arith) ]
+      | inr g ↦
+          let b = boundary-begins (p - length c) r (past c t s p h e q g) in
+          (suc (b .0), subst (Begins s (suc (b .0))) (omega arith) (later (p - length c) (b .0) h e (b .1)))
+    ]
 
 pub boundaries : Boundaries
 boundaries s p t = (boundary-begins p (t .1), begins-boundary s p)

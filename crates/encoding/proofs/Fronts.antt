@@ -12,10 +12,13 @@ use Rattle.encoding.proofs.Chars.{char-size}
 
 abbrev pub None1 : List ℕ → Type 0
 None1 s = 1 ≤ length s → Char (getD s 0 0 ∷ []) → ⊥
+
 abbrev pub None2 : List ℕ → Type 0
 None2 s = 2 ≤ length s → Char (getD s 0 0 ∷ getD s 1 0 ∷ []) → ⊥
+
 abbrev pub None3 : List ℕ → Type 0
 None3 s = 3 ≤ length s → Char (getD s 0 0 ∷ getD s 1 0 ∷ getD s 2 0 ∷ []) → ⊥
+
 abbrev pub None4 : List ℕ → Type 0
 None4 s = 4 ≤ length s → Char (getD s 0 0 ∷ getD s 1 0 ∷ getD s 2 0 ∷ getD s 3 0 ∷ []) → ⊥
 

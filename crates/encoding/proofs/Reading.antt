@@ -35,8 +35,8 @@ further b t {a = a} {c = c} (more {c = a1} {t = a2} g s p) (more {c = c1} {t = c
     let right : w ≡ a1 ++ (a2 ++ b) = e ∙ ap (λ (x : List ℕ). x ++ b) p ∙ append-assoc a1 a2 b in
     let z : length c1 ≡ length a1 = front-same w _ _ (front-of c1 (c2 ++ t) w h left) (front-of a1 (a2 ++ b) w g right) in
     let rest : c2 ++ t ≡ a2 ++ b =
-      sym (ap (drop (length c1)) left ∙ drop-at c1 (c2 ++ t) (length c1) refl)
-      ∙ (ap (drop (length c1)) right ∙ drop-at a1 (a2 ++ b) (length c1) (sym z)) in
+    sym (ap (drop (length c1)) left ∙ drop-at c1 (c2 ++ t) (length c1) refl)
+    ∙ (ap (drop (length c1)) right ∙ drop-at a1 (a2 ++ b) (length c1) (sym z)) in
     further b t s r rest (omega arith)
 
 -- what follows characters at the front of text is text
@@ -54,22 +54,28 @@ reach zero t l = (0, (omega arith, none))
 reach (suc k) none l = absurd (omega arith)
 reach (suc k) (more {n = n} {c = c} {t = u} {s = s} h r e) l =
     let b = reach k r (omega arith) in
-    let p = b .0 in
-    (length c + p, (omega (arith, ap length e, length-append c u, b .1 .0),
-      more h (b .1 .1) (ap (take (length c + p)) e ∙ take-append-add c u p)))
+    let p = b .0 in (
+      length c + p,
+      (
+        omega (arith, ap length e, length-append c u, b .1 .0),
+        more h (b .1 .1) (ap (take (length c + p)) e ∙ take-append-add c u p),
+      ),
+    )
 
 -- one character more
 pub reaches-more : (s : List ℕ) (k p n : ℕ) (rest : List ℕ) → Reaches s k p → rest ≡ drop p s → Front rest n → Reaches s (k + 1) (p + n)
 reaches-more s k p n rest b e f =
-    let g : Front (drop p s) n = subst (λ (l : List ℕ). Front l n) e f in
-    (omega (arith, g .0, length-drop p s, b .0),
-     subst (Chars (k + 1)) (sym (take-add p n s)) (chars-join (b .1) (one-char (g .1))))
+    let g : Front (drop p s) n = subst (λ (l : List ℕ). Front l n) e f in (
+      omega (arith, g .0, length-drop p s, b .0),
+      subst (Chars (k + 1)) (sym (take-add p n s)) (chars-join (b .1) (one-char (g .1))),
+    )
 
 pub reaches-text : (s : List ℕ) (n k p : ℕ) → Chars n s → Reaches s k p → (k ≤ n) × Begins s k p
 reaches-text s n k p t b =
-    let d = after (b .1) t (sym (take-append-drop p s)) in
-    (omega (arith, d .1),
-     (take p s, drop p s, sym (take-append-drop p s), length-take-le p s (b .0), b .1, (d .0, d .2)))
+    let d = after (b .1) t (sym (take-append-drop p s)) in (
+      omega (arith, d .1),
+      (take p s, drop p s, sym (take-append-drop p s), length-take-le p s (b .0), b .1, (d .0, d .2)),
+    )
 
 -- where no character follows the first i, no k beyond i can be reached
 pub reaches-none : (s : List ℕ) (i k p : ℕ) → Reaches s i p → i < k → ((n : ℕ) → Front (drop p s) n → ⊥) → (q : ℕ) → Reaches s k q → ⊥
@@ -108,8 +114,9 @@ chars-counted (more {n = n} {c = c} {t = t} {s = s} h r e) =
 pub leads-yes : (b : ℕ) → (Tail b → ⊥) → leads b ≡ true
 leads-yes b h =
     elim (cases-lt b 128) [
-      inl l ↦ grind (arith, tells)
-    | inr g ↦ elim (cases-lt 191 b) [ inl l ↦ grind (arith, tells) | inr k ↦ absurd (h (g, k)) ] ]
+      | inl l ↦ grind (arith, tells)
+      | inr g ↦ elim (cases-lt 191 b) [ inl l ↦ grind (arith, tells) | inr k ↦ absurd (h (g, k)) ]
+    ]
 
 pub leads-no : (b : ℕ) → Tail b → leads b ≡ false
 leads-no b t = grind (arith, tells)

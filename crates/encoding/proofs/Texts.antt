@@ -85,12 +85,14 @@ begins-more s k p n rest b e f =
     let a = b .0 in
     let t = b .1 in
     let re : rest ≡ t = e ∙ ap (drop p) (b .2) ∙ drop-at a t p (b .3) in
-    let g : Front t n = subst (λ (l : List ℕ). Front l n) re f in
-    (a ++ take n t, drop n t,
-     b .2 ∙ ap (λ (l : List ℕ). a ++ l) (sym (take-append-drop n t)) ∙ sym (append-assoc a (take n t) (drop n t)),
-     omega (arith, length-append a (take n t), length-take-le n t (g .0), b .3),
-     chars-join (b .4) (one-char (g .1)),
-     text-rest n g (b .5))
+    let g : Front t n = subst (λ (l : List ℕ). Front l n) re f in (
+      a ++ take n t,
+      drop n t,
+      b .2 ∙ ap (λ (l : List ℕ). a ++ l) (sym (take-append-drop n t)) ∙ sym (append-assoc a (take n t) (drop n t)),
+      omega (arith, length-append a (take n t), length-take-le n t (g .0), b .3),
+      chars-join (b .4) (one-char (g .1)),
+      text-rest n g (b .5),
+    )
 
 pub begins-within : (s : List ℕ) (k p : ℕ) → Begins s k p → p ≤ length s
 begins-within s k p b = omega (arith, ap length (b .2), length-append (b .0) (b .1), b .3)

@@ -51,9 +51,10 @@ wraps c x =
     let e : (x / span c) * span c + m ≡ x = div-add-mod' x (span c) in
     let l : m < span c = mod-lt x (omega arith) in
     let p : Placed c x (wrapped c x) =
-      elim (cases-lt c m) [
-        inl h ↦ subst (Placed c x) (sym (wrapped-high c x h)) (placed-high c x m (x / span c) h l e)
-      | inr h ↦ subst (Placed c x) (sym (wrapped-low c x h)) (placed-low c x m (x / span c) h e) ] in
+    elim (cases-lt c m) [
+      | inl h ↦ subst (Placed c x) (sym (wrapped-high c x h)) (placed-high c x m (x / span c) h l e)
+      | inr h ↦ subst (Placed c x) (sym (wrapped-low c x h)) (placed-low c x m (x / span c) h e)
+    ] in
     (p .0, p .1, p .2, wrapped-fits c x)
 
 -- an answer's clause made weaker

@@ -77,4 +77,4 @@ wrapped c x = cond (leb (x % (2 * (c + 1))) c) (pos (x % (2 * (c + 1)))) (negsuc
 -- a number that fits stays as it is
 abbrev pub Wraps : Type 0
 Wraps = (c x : ℕ) → (negsuc c ≤ℤ wrapped c x) × (wrapped c x ≤ℤ pos c)
-  × ((k : ℕ) × (wrapped c x +ℤ pos (k * (2 * (c + 1))) ≡ pos x)) × (x ≤ c → wrapped c x ≡ pos x)
+    × ((k : ℕ) × (wrapped c x +ℤ pos (k * (2 * (c + 1))) ≡ pos x)) × (x ≤ c → wrapped c x ≡ pos x)

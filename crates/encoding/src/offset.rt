@@ -52,7 +52,11 @@ pub impl Offset for i32 as I32Offset {
     }
 
     fn from_u64(n: u64) -> Option<i32> {
-        if n > 2_147_483_647 { None } else { Some(n as i32) }
+        if n > 2_147_483_647 {
+            None
+        } else {
+            Some(n as i32)
+        }
     }
 
     fn to_u64(self) -> Option<u64> {
@@ -78,7 +82,11 @@ pub impl Offset for i64 as I64Offset {
     }
 
     fn from_u64(n: u64) -> Option<i64> {
-        if n > 9_223_372_036_854_775_807 { None } else { Some(n as i64) }
+        if n > 9_223_372_036_854_775_807 {
+            None
+        } else {
+            Some(n as i64)
+        }
     }
 
     fn to_u64(self) -> Option<u64> {

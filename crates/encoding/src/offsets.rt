@@ -28,13 +28,19 @@ pub fn check<O: Offset>(offsets: &[O], end: u64) -> Result<(), OffsetFault>
     let mut last = 0;
     for i in 0..offsets.len() {
         let Some(n) = offsets[i].to_u64() else {
-            return Err(OffsetFault { row: i.saturating_sub(1) });
+            return Err(OffsetFault {
+                row: i.saturating_sub(1),
+            });
         };
         if n < last {
-            return Err(OffsetFault { row: i.saturating_sub(1) });
+            return Err(OffsetFault {
+                row: i.saturating_sub(1),
+            });
         }
         if n > end {
-            return Err(OffsetFault { row: i.saturating_sub(1) });
+            return Err(OffsetFault {
+                row: i.saturating_sub(1),
+            });
         }
         last = n;
     }
@@ -45,7 +51,11 @@ pub fn check<O: Offset>(offsets: &[O], end: u64) -> Result<(), OffsetFault>
 pub fn read<O: Offset>(offsets: &[O], i: usize) -> Option<u64>
     ensures { λ r. ⌜ Answered (map (O·Offset .number) (now (offsets .entry))) (O·Offset .ceiling) i r ⌝ }
 {
-    if i < offsets.len() { offsets[i].to_u64() } else { None }
+    if i < offsets.len() {
+        offsets[i].to_u64()
+    } else {
+        None
+    }
 }
 
 impl Offsets<'_> {

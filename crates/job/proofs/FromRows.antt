@@ -80,7 +80,8 @@ granted-over l rs c o g =
       lists-are = g .kept;
       texts = λ e i d h. subst utf8.Text (s .3 i d h) (g .texts e i (omega (arith, o .counted, h)));
       lengths-are = g .lengths ∙ map-given (meaning-of l .rows) ∙ ap sizes (s .2);
-      nulls-are = ap (λ m. null-rows (m .rows)) (g .rows) ∙ nulls-given (meaning-of l .rows) ∙ ap nulls (s .2) }
+      nulls-are = ap (λ m. null-rows (m .rows)) (g .rows) ∙ nulls-given (meaning-of l .rows) ∙ ap nulls (s .2);
+    }
 
 refused-over : (l : Lists) (rs : List Given-row) (f : ColumnFault) → Over l rs → Refused l f → Refused-over l rs f
 refused-over l rs Shape o h =
@@ -102,9 +103,9 @@ made-over l rs (Err f) o h = refused-over l rs f o h
 
 -- the lists that were gathered hold the rows
 pub over-from : {X : Type 0} (number : X → ℤ) (g : Gathered X) (rs : List Given-row) (part : List ℕ) (text : Bool) (o : Offsets) (ds : List ℕ) (m : Bitmap)
-  → Lays number g rs → Laid part rs → length part ≤ 65536 → 2147483647 ≤ ceiling-of o → numbers o ≡ map number (vec-items (g .offsets))
-  → ds ≡ vec-items (g .«data») → now (m .bytes) ≡ vec-items (g .validity) → m .start ≡ 0
-  → Over (record { text = text; rows = g .rows; offsets = o; content = ds; validity = Some m }) rs
+    → Lays number g rs → Laid part rs → length part ≤ 65536 → 2147483647 ≤ ceiling-of o → numbers o ≡ map number (vec-items (g .offsets))
+    → ds ≡ vec-items (g .«data») → now (m .bytes) ≡ vec-items (g .validity) → m .start ≡ 0
+    → Over (record { text = text; rows = g .rows; offsets = o; content = ds; validity = Some m }) rs
 over-from number g rs part text o ds m y h s k p q b z =
     let n = laid-small h in
     record {
@@ -114,18 +115,23 @@ over-from number g rs part text o ds m y h s k p q b z =
       covered = le-leb (m .start + g .rows) (8 * length (now (m .bytes))) (omega (arith, y .covered, ap length b, z));
       bits = λ i d l. (λ j. bit (b j) (sums i j)) ∙ y .bits i d l;
       few = omega (arith, n .0, s);
-      low = omega (arith, n .1, s, k) }
+      low = omega (arith, n .1, s, k);
+    }
   where
     sums : (i : ℕ) → m .start + i ≡ i
     sums i = omega (arith, z)
 
 -- what is measured of the column is measured of the record's rows
 pub part-from : (u : unit.Unit) (l : Lists) (rs : List Given-row) (c : ℕ) (part : List ℕ) (r : Result Lengths JobFault) → Laid part rs → (l .text ≡ true → All-text rs)
-  → lengths-shown l ≡ sizes rs → null-rows (shown l .rows) ≡ nulls rs → ceiling-of (l .offsets) ≡ c → Measured-as u l r → Part-measured u (l .text) c part r
+    → lengths-shown l ≡ sizes rs → null-rows (shown l .rows) ≡ nulls rs → ceiling-of (l .offsets) ≡ c → Measured-as u l r → Part-measured u (l .text) c part r
 part-from u l rs c part (Ok m) h t e z q k =
-    let n : length (lengths-shown l) ≡ length rs = ap length e ∙ length-map rs (λ (w : Given-row). length (w .bytes)) in
-    (rs, h, t, omega (arith, k .0, n),
-     subst (λ (ls : List ℕ). Tells u c (nulls rs) ls m) e (subst (λ (x : ℕ). Tells u c x (lengths-shown l) m) z (subst (λ (x : ℕ). Tells u x (null-rows (shown l .rows)) (lengths-shown l) m) q (k .1))))
+    let n : length (lengths-shown l) ≡ length rs = ap length e ∙ length-map rs (λ (w : Given-row). length (w .bytes)) in (
+      rs,
+      h,
+      t,
+      omega (arith, k .0, n),
+      subst (λ (ls : List ℕ). Tells u c (nulls rs) ls m) e (subst (λ (x : ℕ). Tells u c x (lengths-shown l) m) z (subst (λ (x : ℕ). Tells u x (null-rows (shown l .rows)) (lengths-shown l) m) q (k .1))),
+    )
 part-from u l rs c part (Err Memory) h t e z q k = tt
 part-from u l rs c part (Err Record) h t e z q k = absurd k
 part-from u l rs c part (Err NotRead) h t e z q k = absurd k

@@ -33,21 +33,21 @@ use Rattle.job.specs.Transcript.{Column-record, Read, Not-read, nulls, sizes, 
 
 -- a granted measure is printed as its lines
 lines-are : (u : unit.Unit) (n : ℕ) (wide : Bool) (rs : List Given-row) (m : Lengths) → Tells u (ceiling wide) (nulls rs) (sizes rs) m
-  → length-lines u n wide rs ≡ line n 0 (m .rows) (m .nulls) (m .wrapped) ++ joined number-line (vec-items (m .numbers))
+    → length-lines u n wide rs ≡ line n 0 (m .rows) (m .nulls) (m .wrapped) ++ joined number-line (vec-items (m .numbers))
 lines-are u n wide rs m t =
     ap (λ (x : ℕ). line n 0 x (nulls rs) (over-in u (ceiling wide) (sizes rs)) ++ joined number-line (numbers-in u (ceiling wide) (sizes rs)))
-      (sym (t .rows-are ∙ length-map rs (λ (r : Given-row). length (r .bytes))))
+    (sym (t .rows-are ∙ length-map rs (λ (r : Given-row). length (r .bytes))))
     ∙ ap (λ (x : ℕ). line n 0 (m .rows) x (over-in u (ceiling wide) (sizes rs)) ++ joined number-line (numbers-in u (ceiling wide) (sizes rs))) (sym (t .nulls-are))
     ∙ ap (λ (x : ℕ). line n 0 (m .rows) (m .nulls) x ++ joined number-line (numbers-in u (ceiling wide) (sizes rs))) (sym (t .wrapped-are))
     ∙ ap (λ (zs : List ℤ). line n 0 (m .rows) (m .nulls) (m .wrapped) ++ joined number-line zs) (sym (t .numbers-are))
 
 pub measure-granted : (cs : List Column-record) (n : ℕ) (u : unit.Unit) (c : ℕ) (m : Lengths) → Column-measured u cs c (Ok m)
-  → Measure-printed cs n u c (line n 0 (m .rows) (m .nulls) (m .wrapped) ++ joined number-line (vec-items (m .numbers)))
+    → Measure-printed cs n u c (line n 0 (m .rows) (m .nulls) (m .wrapped) ++ joined number-line (vec-items (m .numbers)))
 measure-granted cs n u c m p =
     subst (Measure-printed cs n u c) (lines-are u n (p .0 .wide) (p .1) m (p .4)) (printed.measured (p .0) (p .1) (p .2) (p .3))
 
 pub measure-refused : (cs : List Column-record) (n : ℕ) (u : unit.Unit) (c : ℕ) (f : JobFault) → Column-measured u cs c (Err f) → (f ≡ Memory → ⊥)
-  → Measure-printed cs n u c (line n (number f) 0 0 0)
+    → Measure-printed cs n u c (line n (number f) 0 0 0)
 measure-refused cs n u c Memory p h = absurd (h refl)
 measure-refused cs n u c Record p h = absurd p
 measure-refused cs n u c NotRead p h = printed.not-read p
@@ -64,7 +64,7 @@ operation-measured cs n u c x added h k (printed.measured f rs r l) = measured u
 
 -- an operation that is not built
 pub operation-lacking : (cs : List Column-record) (n a b : ℕ) (x : rec.Record) (added : List ℕ) → Not-built x → ((c : ℕ) → (a ≡ c) ⊎ (b ≡ c) → Names x c)
-  → ((c : ℕ) → Names x c → (a ≡ c) ⊎ (b ≡ c)) → Lacking-printed cs n a b added → Operation cs n x added
+    → ((c : ℕ) → Names x c → (a ≡ c) ⊎ (b ≡ c)) → Lacking-printed cs n a b added → Operation cs n x added
 operation-lacking cs n a b x added h to from (unread c k p) = not-read c (to c k) p
 operation-lacking cs n a b x added h to from (lacking p q) =
     not-built h (λ c k. either c (from c k))

@@ -28,13 +28,14 @@ ended-by k s t before after b h l p =
       added = refusal-line k;
       printed = h .says;
       stepped = subst (Step s (refusal-line k)) (sym (h .ends)) p;
-      shorter = subst (λ (u : State). length (u .rest) < length (s .rest)) (sym (h .ends)) l })
+      shorter = subst (λ (u : State). length (u .rest) < length (s .rest)) (sym (h .ends)) l;
+    })
 
 pub stop-long : (s t : State) (before after : List ℕ) (b : Bool) → 65536 < length (s .rest) → Stopped 19 s t before after b → Stepped s t before after b
 stop-long s t before after b l h = ended-by 19 s t before after b h (omega arith) (too-long l)
 
 pub stop-bad : (s t : State) (before after : List ℕ) (b : Bool) → 0 < length (s .rest) → length (s .rest) ≤ 65536
-  → ((x : Record) (u : List ℕ) → Stands (s .rest) x u → ⊥) → Stopped 17 s t before after b → Stepped s t before after b
+    → ((x : Record) (u : List ℕ) → Stands (s .rest) x u → ⊥) → Stopped 17 s t before after b → Stepped s t before after b
 stop-bad s t before after b l k n h = ended-by 17 s t before after b h l (bad l k (λ x u p _. n x u p))
 
 -- a column record that is listed at all is listed by the parts of any record that stands there
@@ -44,6 +45,7 @@ not-listed-by (Column g q) f p e n l =
   where
     letters-same : now f ≡ now g
     letters-same = cc
+
     part-same : now q ≡ now p
     part-same = cc
 not-listed-by (Cut k s l) f p e n h = absurd (let z : _≡_ {A = ℕ} 0 1 = cc in omega arith)
@@ -53,26 +55,28 @@ not-listed-by (Length k) f p e n h = absurd (let z : _≡_ {A = ℕ} 0 1 = cc in
 not-listed-by (BitLength k) f p e n h = absurd (let z : _≡_ {A = ℕ} 0 1 = cc in omega arith)
 
 took-step : (s t : State) (f p : RefT (List ℕ)) (rest before after : List ℕ) → 0 < length (s .rest) → length (s .rest) ≤ 65536 → Stands (s .rest) (Column f p) rest
-  → Took s t (now f) (now p) rest before after → Made s t before after
+    → Took s t (now f) (now p) rest before after → Made s t before after
 took-step s t f p rest before after l k h (refused n e q) = record {
   added = refusal-line 17;
   printed = q;
   stepped = subst (Step s (refusal-line 17)) (sym e) (bad l k (λ x u w. not-listed-by x f p (stands-same x (Column f p) u rest w h .0) n));
-  shorter = subst (λ (u : State). length (u .rest) < length (s .rest)) (sym e) l }
+  shorter = subst (λ (u : State). length (u .rest) < length (s .rest)) (sym e) l;
+}
 took-step s t f p rest before after l k h (taken y w e) = record {
   added = _;
   printed = w .printed;
   stepped = subst (Step s _) (sym (e ∙ ap (λ (q : List ℕ). record { columns = s .columns ++ record { format = y .format; part = q } ∷ []; operations = s .operations; rest = rest }) (w .kept)))
-    (column (Column f p) (y .format) (now p) rest (w .rows) (w .answer) k h (w .lawful, w .spelt, refl) (w .laid) (w .answered));
-  shorter = subst (λ (u : State). length (u .rest) < length (s .rest)) (sym e) (stands-shorter (Column f p) h) }
+      (column (Column f p) (y .format) (now p) rest (w .rows) (w .answer) k h (w .lawful, w .spelt, refl) (w .laid) (w .answered));
+  shorter = subst (λ (u : State). length (u .rest) < length (s .rest)) (sym e) (stands-shorter (Column f p) h);
+}
 
 pub took-stepped : (s t : State) (x : Record) (f p : RefT (List ℕ)) (rest before after : List ℕ) (b : Bool) → 0 < length (s .rest) → length (s .rest) ≤ 65536 → x ≡ Column f p
-  → Stands (s .rest) x rest → b ≡ true → Took s t (now f) (now p) rest before after → Stepped s t before after b
+    → Stands (s .rest) x rest → b ≡ true → Took s t (now f) (now p) rest before after → Stepped s t before after b
 took-stepped s t x f p rest before after b l k e h g w =
     subst (Stepped s t before after) (sym g) (took-step s t f p rest before after l k (subst (λ (y : Record). Stands (s .rest) y rest) e h) w)
 
 pub operated : (s : State) (x : Record) (rest before after added : List ℕ) → length (s .rest) ≤ 65536 → Stands (s .rest) x rest → after ≡ before ++ added
-  → Operation (s .columns) (s .operations + 1) x added → Made s (record { columns = s .columns; operations = s .operations + 1; rest = rest }) before after
+    → Operation (s .columns) (s .operations + 1) x added → Made s (record { columns = s .columns; operations = s .operations + 1; rest = rest }) before after
 operated s x rest before after added k h q o = record { added = added; printed = q; stepped = operation x rest added k h o; shorter = stands-shorter x h }
 
 -- the rows part of a column record is no longer than the file
@@ -80,8 +84,16 @@ pub part-small : (file rest : List ℕ) (x : Record) (f p : RefT (List ℕ)) →
 part-small file rest x f p e h =
     let w = subst (λ (y : Record). Stands file y rest) e h in
     let body = w .0 in
-    omega (arith, ap length (w .2 .3), length-append (w .2 .0) (w .1), ap length (w .3 .3), length-append (w .3 .0) (body ++ rest), length-append body rest,
-      ap length (w .4), length-append (now f) (now p))
+    omega (
+      arith,
+      ap length (w .2 .3),
+      length-append (w .2 .0) (w .1),
+      ap length (w .3 .3),
+      length-append (w .3 .0) (body ++ rest),
+      length-append body rest,
+      ap length (w .4),
+      length-append (now f) (now p),
+    )
 
 -- a whole run, step by step
 abbrev pub Goes-on : State → State → List ℕ → Type 0

@@ -8,7 +8,7 @@ use Rattle.std.specs.Written.{decimal, signed}
 -- an operation's line: its number, the refusal or 0, and three numbers
 abbrev pub line : ℕ → ℕ → ℕ → ℕ → ℕ → List ℕ
 line n refusal a b c =
-  decimal n ++ (codes " " ++ (decimal refusal ++ (codes " " ++ (decimal a ++ (codes " " ++ (decimal b ++ (codes " " ++ (decimal c ++ codes "\n"))))))))
+    decimal n ++ (codes " " ++ (decimal refusal ++ (codes " " ++ (decimal a ++ (codes " " ++ (decimal b ++ (codes " " ++ (decimal c ++ codes "\n"))))))))
 
 -- a refusal that belongs to no operation: its number and three zeros
 abbrev pub refusal-line : ℕ → List ℕ

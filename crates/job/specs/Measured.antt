@@ -52,7 +52,7 @@ Measured-as u l (Err (Kind (Length Rows))) = 4096 < length (lengths-shown l)
 -- more rows than there are places; 17 where the part is not laid out as rows; 4 where a row of a text column is no text
 abbrev pub Part-measured : unit.Unit → Bool → ℕ → List ℕ → Result Lengths JobFault → Type 0
 Part-measured u text c part (Ok m) =
-  (rs : List Given-row) × Laid part rs × (text ≡ true → All-text rs) × (length rs ≤ 4096) × Tells u c (nulls rs) (sizes rs) m
+    (rs : List Given-row) × Laid part rs × (text ≡ true → All-text rs) × (length rs ≤ 4096) × Tells u c (nulls rs) (sizes rs) m
 Part-measured u text c part (Err Memory) = Unit {0}
 Part-measured u text c part (Err Record) = (rs : List Given-row) → Laid part rs → ⊥
 Part-measured u text c part (Err NotRead) = ⊥
@@ -64,7 +64,7 @@ Part-measured u text c part (Err (Kind (Length Rows))) = (rs : List Given-row) �
 -- measuring column k of a job: its numbers, 12, or 18 where it is not read
 abbrev pub Column-measured : unit.Unit → List Column-record → ℕ → Result Lengths JobFault → Type 0
 Column-measured u cs k (Ok m) =
-  (f : OffsetFormat) × (rs : List Given-row) × Read cs k f rs × (length rs ≤ 4096) × Tells u (ceiling (f .wide)) (nulls rs) (sizes rs) m
+    (f : OffsetFormat) × (rs : List Given-row) × Read cs k f rs × (length rs ≤ 4096) × Tells u (ceiling (f .wide)) (nulls rs) (sizes rs) m
 Column-measured u cs k (Err Memory) = Unit {0}
 Column-measured u cs k (Err Record) = ⊥
 Column-measured u cs k (Err NotRead) = Not-read cs k

@@ -26,7 +26,7 @@ pub record Stopped (k : ℕ) (s t : State) (before after : List ℕ) (more : Boo
 pub data Took (s t : State) (ls part rest before after : List ℕ) : Type 0 where
   refused : Not-listed ls part → t ≡ ended s → after ≡ before ++ refusal-line 17 → Took s t ls part rest before after
   taken : (e : Entry) → Taken ls part e before after → t ≡ record { columns = s .columns ++ record-of e ∷ []; operations = s .operations; rest = rest }
-    → Took s t ls part rest before after
+      → Took s t ls part rest before after
 
 -- a step was made: it added just what it prints, and less is left of the file
 pub record Made (s t : State) (before after : List ℕ) : Type 0 where

@@ -74,7 +74,7 @@ nulls rs = countBy (λ r. not (r .valid)) rs
 -- what a length prints: rows, nulls and wrapped rows, then each row's number in the width
 abbrev pub length-lines : unit.Unit → ℕ → Bool → List Given-row → List ℕ
 length-lines u n wide rs =
-  line n 0 (length rs) (nulls rs) (over-in u (ceiling wide) (sizes rs)) ++ joined number-line (numbers-in u (ceiling wide) (sizes rs))
+    line n 0 (length rs) (nulls rs) (over-in u (ceiling wide) (sizes rs)) ++ joined number-line (numbers-in u (ceiling wide) (sizes rs))
 
 -- the operation x names column c
 abbrev pub Names : Record → ℕ → Type 0
@@ -147,10 +147,10 @@ pub data Step (s : State) : List ℕ → State → Type 0 where
   too-long : 65536 < length (s .rest) → Step s (refusal-line 19) (ended s)
   bad : 0 < length (s .rest) → length (s .rest) ≤ 65536 → ((x : Record) (t : List ℕ) → Stands (s .rest) x t → Listed x → ⊥) → Step s (refusal-line 17) (ended s)
   column : (x : Record) (f : Format) (part t : List ℕ) (rs : List Given-row) (a : Option ℕ) → length (s .rest) ≤ 65536 → Stands (s .rest) x t → Columns x f part
-    → Laid part rs → Column-answer f rs a
-    → Step s (answer-line a) (record { columns = s .columns ++ record { format = f; part = part } ∷ []; operations = s .operations; rest = t })
+      → Laid part rs → Column-answer f rs a
+      → Step s (answer-line a) (record { columns = s .columns ++ record { format = f; part = part } ∷ []; operations = s .operations; rest = t })
   operation : (x : Record) (t out : List ℕ) → length (s .rest) ≤ 65536 → Stands (s .rest) x t → Operation (s .columns) (s .operations + 1) x out
-    → Step s out (record { columns = s .columns; operations = s .operations + 1; rest = t })
+      → Step s out (record { columns = s .columns; operations = s .operations + 1; rest = t })
 
 -- a whole job prints what its steps print, one after the other, until nothing is left of the file
 pub data Runs : State → List ℕ → Type 0 where

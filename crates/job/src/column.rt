@@ -32,10 +32,22 @@ pub fn built(format: Format) -> Option<OffsetFormat>
     ensures { λ r. ⌜ r ≡ built-format format ⌝ }
 {
     match format {
-        Format::Utf8 => Some(OffsetFormat { text: true, wide: false }),
-        Format::LargeUtf8 => Some(OffsetFormat { text: true, wide: true }),
-        Format::Binary => Some(OffsetFormat { text: false, wide: false }),
-        Format::LargeBinary => Some(OffsetFormat { text: false, wide: true }),
+        Format::Utf8 => Some(OffsetFormat {
+            text: true,
+            wide: false,
+        }),
+        Format::LargeUtf8 => Some(OffsetFormat {
+            text: true,
+            wide: true,
+        }),
+        Format::Binary => Some(OffsetFormat {
+            text: false,
+            wide: false,
+        }),
+        Format::LargeBinary => Some(OffsetFormat {
+            text: false,
+            wide: true,
+        }),
         Format::Utf8View => None,
         Format::BinaryView => None,
         Format::FixedSizeBinary { .. } => None,
@@ -43,7 +55,12 @@ pub fn built(format: Format) -> Option<OffsetFormat>
 }
 
 // Measures the column over the rows of a record, in one width of offsets.
-fn measure_in<O: Offset>(heap: Global, text: bool, part: &[u8], unit: Unit) -> Result<Lengths, JobFault>
+fn measure_in<O: Offset>(
+    heap: Global,
+    text: bool,
+    part: &[u8],
+    unit: Unit,
+) -> Result<Lengths, JobFault>
     requires { ⌜ size (now part) ≤ 65536 ⌝ }
     ensures { λ r. ⌜ Part-measured unit text (O·Offset .ceiling) (now (part .entry)) r ⌝ }
 {
@@ -51,7 +68,10 @@ fn measure_in<O: Offset>(heap: Global, text: bool, part: &[u8], unit: Unit) -> R
         return Err(JobFault::Record);
     };
     let offsets = O::lend(lists.offsets.as_slice());
-    let map = Bitmap { bytes: lists.validity.as_slice(), start: 0 };
+    let map = Bitmap {
+        bytes: lists.validity.as_slice(),
+        start: 0,
+    };
     let column = OffsetColumn::new(text, lists.rows, offsets, lists.data.as_slice(), Some(map))?;
     let mut narrow = [0i32; 4096];
     let mut wide = [0i64; 4096];
@@ -59,9 +79,18 @@ fn measure_in<O: Offset>(heap: Global, text: bool, part: &[u8], unit: Unit) -> R
 }
 
 // Measures the column over the rows of a record.
-pub(crate) fn measure_part(heap: Global, format: OffsetFormat, part: &[u8], unit: Unit) -> Result<Lengths, JobFault>
+pub(crate) fn measure_part(
+    heap: Global,
+    format: OffsetFormat,
+    part: &[u8],
+    unit: Unit,
+) -> Result<Lengths, JobFault>
     requires { ⌜ size (now part) ≤ 65536 ⌝ }
     ensures { λ r. ⌜ Part-measured unit (format .text) (ceiling (format .wide)) (now (part .entry)) r ⌝ }
 {
-    if format.wide { measure_in::<i64>(heap, format.text, part, unit) } else { measure_in::<i32>(heap, format.text, part, unit) }
+    if format.wide {
+        measure_in::<i64>(heap, format.text, part, unit)
+    } else {
+        measure_in::<i32>(heap, format.text, part, unit)
+    }
 }

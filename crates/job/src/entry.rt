@@ -43,7 +43,12 @@ fn find<'a>(columns: &[Entry<'a>], column: u16) -> Option<(OffsetFormat, &'a [u8
 }
 
 /// The lengths of a column of a job. Refuses by 18 where it is not read, and by 12 where it has more rows than 4,096.
-pub fn measure_column(heap: Global, columns: &[Entry<'_>], column: u16, unit: Unit) -> Result<Lengths, JobFault>
+pub fn measure_column(
+    heap: Global,
+    columns: &[Entry<'_>],
+    column: u16,
+    unit: Unit,
+) -> Result<Lengths, JobFault>
     ensures { λ r. ⌜ Column-measured unit (records-of (now (columns .entry))) column r ⌝ }
 {
     let Some((format, part)) = find(columns, column) else {

@@ -4,7 +4,6 @@ ghost use Rattle.columns.specs.Faults.{number as column-fault-number};
 ghost use Rattle.kinds.specs.Faults.{number as kind-fault-number};
 ghost use Rattle.job.specs.Faults.{number as fault-number, unread-of, read-answer, making-answer};
 ghost use Rattle.job.specs.declared.fault.JobFault.the-variants.{Memory, Record, Column, Kind};
-use records::record::BadRecord;
 use columns::fault::ColumnFault;
 use columns::fault::ColumnFaultDebug;
 use columns::fault::ColumnFaultPartialEq;
@@ -12,6 +11,7 @@ use kernels::length::LengthFault;
 use kinds::fault::KindFault;
 use kinds::fault::KindFaultDebug;
 use kinds::fault::KindFaultPartialEq;
+use records::record::BadRecord;
 use std::alloc::AllocError;
 use std::alloc::Refused;
 

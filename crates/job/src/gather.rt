@@ -11,9 +11,9 @@ ghost use lib.IntN.{pos};
 ghost use lib.ListN.{length};
 ghost use mathlib.Core.List.{List, [], _∷_, _++_};
 ghost use mathlib.Core.Path.{_≡_};
-use records::rows::next_row;
 use encoding::bitmap::write;
 use encoding::offset::Offset;
+use records::rows::next_row;
 use std::alloc::AllocError;
 use std::alloc::Global;
 

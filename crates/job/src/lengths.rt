@@ -59,15 +59,31 @@ fn widened(heap: Global, list: &[i32]) -> Result<Vec<i64>, AllocError>
 }
 
 // The first numbers of the list that is meant.
-fn numbers_of(heap: Global, is_wide: bool, rows: usize, narrow: &[i32], wide: &[i64]) -> Result<Vec<i64>, AllocError>
+fn numbers_of(
+    heap: Global,
+    is_wide: bool,
+    rows: usize,
+    narrow: &[i32],
+    wide: &[i64],
+) -> Result<Vec<i64>, AllocError>
     requires { ⌜ rows ≤ room «is_wide» (now narrow) (now wide) ⌝ }
     ensures { λ r. ⌜ made r (λ v. vec-items v ≡ take rows (cond «is_wide» (now (wide .entry)) (now (narrow .entry)))) ⌝ }
 {
-    if is_wide { Vec::from_slice(heap, &wide[0..rows]) } else { widened(heap, &narrow[0..rows]) }
+    if is_wide {
+        Vec::from_slice(heap, &wide[0..rows])
+    } else {
+        widened(heap, &narrow[0..rows])
+    }
 }
 
 // The lengths of a column in a unit, by way of two lists. Refuses by 12 where it has more rows than a list has places.
-pub(crate) fn lengths_of(heap: Global, column: &OffsetColumn<'_>, unit: Unit, narrow: &mut [i32], wide: &mut [i64]) -> Result<Lengths, JobFault>
+pub(crate) fn lengths_of(
+    heap: Global,
+    column: &OffsetColumn<'_>,
+    unit: Unit,
+    narrow: &mut [i32],
+    wide: &mut [i64],
+) -> Result<Lengths, JobFault>
     requires places { ⌜ (size (now narrow) ≡ 4096) × (size (now wide) ≡ 4096) ⌝ }
     ensures { λ r. ⌜ Measured-as unit (lists-of (now (column .entry))) r ⌝ }
 {
@@ -77,5 +93,10 @@ pub(crate) fn lengths_of(heap: Global, column: &OffsetColumn<'_>, unit: Unit, na
     let is_wide = column.is_wide();
     let numbers = numbers_of(heap, is_wide, rows, narrow, wide)?;
     let nulls = count_nulls(column);
-    Ok(Lengths { rows, nulls, wrapped, numbers })
+    Ok(Lengths {
+        rows,
+        nulls,
+        wrapped,
+        numbers,
+    })
 }

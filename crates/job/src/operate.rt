@@ -43,7 +43,15 @@ fn put_lengths(heap: Global, out: &mut String, n: u64, lengths: &Lengths) -> Res
     ensures { λ r. ⌜ made r (λ _. string-bytes (now (out .exit)) ≡ string-bytes (now (out .entry))
         ++ (line n 0 (now (lengths .entry) .rows) (now (lengths .entry) .nulls) (now (lengths .entry) .wrapped) ++ joined number-line (vec-items (now (lengths .entry) .numbers)))) ⌝ }
 {
-    put_line(heap, out, n, 0, lengths.rows as u64, lengths.nulls as u64, lengths.wrapped as u64)?;
+    put_line(
+        heap,
+        out,
+        n,
+        0,
+        lengths.rows as u64,
+        lengths.nulls as u64,
+        lengths.wrapped as u64,
+    )?;
     put_numbers(heap, out, lengths.numbers.as_slice())
 }
 
@@ -59,7 +67,14 @@ fn put_fault(heap: Global, out: &mut String, n: u64, fault: JobFault) -> Result<
 }
 
 // Prints the lengths of a column, or why they cannot be had.
-fn print_lengths(heap: Global, columns: &[Entry<'_>], n: u64, column: u16, unit: Unit, out: &mut String) -> Result<(), JobFault>
+fn print_lengths(
+    heap: Global,
+    columns: &[Entry<'_>],
+    n: u64,
+    column: u16,
+    unit: Unit,
+    out: &mut String,
+) -> Result<(), JobFault>
     ensures { λ r. ⌜ made r (λ _. (added : List ℕ) × (string-bytes (now (out .exit)) ≡ string-bytes (now (out .entry)) ++ added)
         × Measure-printed (records-of (now (columns .entry))) n unit column added) ⌝ }
 {
@@ -83,7 +98,14 @@ fn is_read(heap: Global, columns: &[Entry<'_>], column: u16) -> Result<bool, Job
 }
 
 // Prints that an operation over two columns is not built, or that one of them is not read.
-fn print_lacking(heap: Global, columns: &[Entry<'_>], n: u64, left: u16, right: u16, out: &mut String) -> Result<(), JobFault>
+fn print_lacking(
+    heap: Global,
+    columns: &[Entry<'_>],
+    n: u64,
+    left: u16,
+    right: u16,
+    out: &mut String,
+) -> Result<(), JobFault>
     ensures { λ r. ⌜ made r (λ _. (added : List ℕ) × (string-bytes (now (out .exit)) ≡ string-bytes (now (out .entry)) ++ added)
         × Lacking-printed (records-of (now (columns .entry))) n left right added) ⌝ }
 {
@@ -100,14 +122,27 @@ fn print_lacking(heap: Global, columns: &[Entry<'_>], n: u64, left: u16, right: 
 
 /// Prints what an operation answers: for lengths their line and numbers, for an operation that is not built 15, and for a
 /// column that is not read 18. A column record is no operation and prints nothing.
-pub fn operate(heap: Global, columns: &[Entry<'_>], n: u64, found: Record<'_>, out: &mut String) -> Result<(), JobFault>
+pub fn operate(
+    heap: Global,
+    columns: &[Entry<'_>],
+    n: u64,
+    found: Record<'_>,
+    out: &mut String,
+) -> Result<(), JobFault>
     ensures { λ r. ⌜ made r (λ _. ((f p : RefT (List ℕ)) → found .entry ≡ ColumnOf f p → ⊥) → (added : List ℕ)
         × (string-bytes (now (out .exit)) ≡ string-bytes (now (out .entry)) ++ added) × Operation (records-of (now (columns .entry))) n (found .entry) added) ⌝ }
 {
     match found {
         Record::Column { .. } => Ok(()),
         Record::Cut { column, .. } => print_lacking(heap, columns, n, column, column, out),
-        Record::CutByCharacter { column, .. } => print_lacking(heap, columns, n, column, column, out),
+        Record::CutByCharacter { column, .. } => print_lacking(
+            heap,
+            columns,
+            n,
+            column,
+            column,
+            out,
+        ),
         Record::Join { left, right } => print_lacking(heap, columns, n, left, right, out),
         Record::Length { column } => print_lengths(heap, columns, n, column, Unit::Bytes, out),
         Record::BitLength { column } => print_lengths(heap, columns, n, column, Unit::Bits, out),

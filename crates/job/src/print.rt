@@ -8,7 +8,15 @@ use std::alloc::AllocError;
 use std::alloc::Global;
 
 /// Adds an operation's line: its number, the refusal or 0, and three numbers. Example: `1 0 2 1 0`.
-pub fn put_line(heap: Global, out: &mut String, n: u64, refusal: u64, a: u64, b: u64, c: u64) -> Result<(), AllocError>
+pub fn put_line(
+    heap: Global,
+    out: &mut String,
+    n: u64,
+    refusal: u64,
+    a: u64,
+    b: u64,
+    c: u64,
+) -> Result<(), AllocError>
     ensures { λ r. ⌜ made r (λ _. string-bytes (now (out .exit)) ≡ string-bytes (now (out .entry)) ++ line n refusal a b c) ⌝ }
 {
     let text = format!(heap, "{n} {refusal} {a} {b} {c}\n")?;

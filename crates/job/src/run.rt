@@ -34,7 +34,12 @@ impl<'a> Job<'a> {
     pub fn new(heap: Global, file: &'a [u8]) -> Job<'a>
         ensures { λ r. ⌜ state-of r ≡ record { columns = []; operations = 0; rest = now (file .entry) } ⌝ }
     {
-        Job { heap, columns: Vec::new(heap), operations: 0, rest: file }
+        Job {
+            heap,
+            columns: Vec::new(heap),
+            operations: 0,
+            rest: file,
+        }
     }
 
     // Prints a refusal that ends the job.
@@ -47,7 +52,13 @@ impl<'a> Job<'a> {
     }
 
     // Takes a column record, and goes on after it.
-    fn take(&mut self, letters: &[u8], part: &'a [u8], after: &'a [u8], out: &mut String) -> Result<bool, JobFault>
+    fn take(
+        &mut self,
+        letters: &[u8],
+        part: &'a [u8],
+        after: &'a [u8],
+        out: &mut String,
+    ) -> Result<bool, JobFault>
         requires { ⌜ size (now part) ≤ 65536 ⌝ }
         ensures { λ r. ⌜ made r (λ more. (more ≡ true) × Took (state-of (now (self .entry))) (state-of (now (self .exit))) (now (letters .entry)) (now (part .entry)) (now (after .entry))
             (string-bytes (now (out .entry))) (string-bytes (now (out .exit)))) ⌝ }

@@ -24,7 +24,11 @@ use records::format::read_format;
 use std::alloc::Global;
 
 // Whether the column over a record's rows is made: nothing where they are not laid out as rows, else the fault or none.
-fn check_part(heap: Global, format: OffsetFormat, part: &[u8]) -> Result<Option<Option<ColumnFault>>, JobFault>
+fn check_part(
+    heap: Global,
+    format: OffsetFormat,
+    part: &[u8],
+) -> Result<Option<Option<ColumnFault>>, JobFault>
     requires { ⌜ size (now part) ≤ 65536 ⌝ }
     ensures { λ r. ⌜ made r (λ o. BySome o ((rs : List Given-row) → Laid (now (part .entry)) rs → ⊥)
         (λ a. (rs : List Given-row) × Laid (now (part .entry)) rs × Checked (format .text) rs a)) ⌝ }
@@ -62,7 +66,10 @@ fn meet(heap: Global, format: Format, part: &[u8]) -> Result<Option<Option<JobFa
         (λ a. (rs : List Given-row) × Laid (now (part .entry)) rs × Column-answer format rs (numbered a))) ⌝ }
 {
     let Some(known) = built(format) else {
-        let plain = OffsetFormat { text: false, wide: true };
+        let plain = OffsetFormat {
+            text: false,
+            wide: true,
+        };
         let Some(_) = check_part(heap, plain, part)? else {
             return Ok(None);
         };
@@ -76,7 +83,12 @@ fn meet(heap: Global, format: Format, part: &[u8]) -> Result<Option<Option<JobFa
 
 /// Takes a column record: prints its refusal, if any, and answers the entry that keeps it; nothing, and nothing printed,
 /// where its format is not listed or its rows are not laid out as rows.
-pub(crate) fn take_column<'a>(heap: Global, letters: &[u8], part: &'a [u8], out: &mut String) -> Result<Option<Entry<'a>>, JobFault>
+pub(crate) fn take_column<'a>(
+    heap: Global,
+    letters: &[u8],
+    part: &'a [u8],
+    out: &mut String,
+) -> Result<Option<Entry<'a>>, JobFault>
     requires { ⌜ size (now part) ≤ 65536 ⌝ }
     ensures { λ r. ⌜ made r (λ o. BySome o (Not-listed (now (letters .entry)) (now (part .entry)) × (string-bytes (now (out .exit)) ≡ string-bytes (now (out .entry))))
         (λ e. Taken (now (letters .entry)) (now (part .entry)) e (string-bytes (now (out .entry))) (string-bytes (now (out .exit))))) ⌝ }

@@ -15,8 +15,8 @@ use Rattle.kernels.specs.declared.length.Unit.{Unit}
 use Rattle.kernels.specs.Lengths.{in-unit, numbers-in, over-in, answered, filled}
 
 pub one-more : {X : Type 0} (f : ℕ → ℤ) (number : X → ℤ) (ls : List ℕ) (start : List ℤ) (out : List X) (i : ℕ) (x : X)
-  → map number out ≡ map f (take i ls) ++ drop i start → i < length ls → length ls ≤ length start → number x ≡ f (getD ls i 0)
-  → map number (set out i x) ≡ map f (take (i + 1) ls) ++ drop (i + 1) start
+    → map number out ≡ map f (take i ls) ++ drop i start → i < length ls → length ls ≤ length start → number x ≡ f (getD ls i 0)
+    → map number (set out i x) ≡ map f (take (i + 1) ls) ++ drop (i + 1) start
 one-more f number ls start out i x e h l q =
     let front = map f (take i ls) in
     let n : length front ≡ i = length-map (take i ls) f ∙ length-take-le i ls (omega arith) in
@@ -30,11 +30,11 @@ one-more f number ls start out i x e h l q =
 
 -- whether one length more is counted
 pub over-more : (u : Unit) (c : ℕ) (ls : List ℕ) (i : ℕ) (b : Bool) → i < length ls → b ≡ leb (in-unit u (getD ls i 0)) c → b ≡ false
-  → over-in u c (take (i + 1) ls) ≡ over-in u c (take i ls) + 1
+    → over-in u c (take (i + 1) ls) ≡ over-in u c (take i ls) + 1
 over-more u c ls i b h e q = countBy-more-yes (λ (n : ℕ). not (leb (in-unit u n) c)) ls i 0 h (not-from-false _ (sym e ∙ q))
 
 pub over-same : (u : Unit) (c : ℕ) (ls : List ℕ) (i : ℕ) (b : Bool) → i < length ls → b ≡ leb (in-unit u (getD ls i 0)) c → b ≡ true
-  → over-in u c (take (i + 1) ls) ≡ over-in u c (take i ls)
+    → over-in u c (take (i + 1) ls) ≡ over-in u c (take i ls)
 over-same u c ls i b h e q = countBy-more-no (λ (n : ℕ). not (leb (in-unit u n) c)) ls i 0 h (not-from-true _ (sym e ∙ q))
 
 pub answered-all : (u : Unit) (c : ℕ) (ls : List ℕ) (places i over : ℕ) → length ls ≤ places → length ls ≤ i → over ≡ over-in u c (take i ls) → Ok over ≡ answered u c ls places
@@ -42,7 +42,7 @@ answered-all u c ls places i over h l e =
     ap Ok (e ∙ ap (over-in u c) (take-all i ls l)) ∙ sym (cond-false (ltb places (length ls)) _ _ (le-ltb places (length ls) h))
 
 pub filled-all : (u : Unit) (c : ℕ) (ls : List ℕ) (start out : List ℤ) (i : ℕ) → length ls ≤ length start → i ≡ length ls
-  → out ≡ numbers-in u c (take i ls) ++ drop i start → out ≡ filled u c ls start
+    → out ≡ numbers-in u c (take i ls) ++ drop i start → out ≡ filled u c ls start
 filled-all u c ls start out i h e q =
     q ∙ ap (λ (n : ℕ). numbers-in u c (take n ls) ++ drop n start) e
     ∙ ap (λ (zs : List ℕ). numbers-in u c zs ++ drop (length ls) start) (take-all (length ls) ls (omega arith))

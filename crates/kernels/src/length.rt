@@ -37,7 +37,11 @@ fn in_width<O: Offset>(unit: Unit, n: u64) -> (O, bool)
 }
 
 /// Writes the length of every row in the unit into the list, as `length` and `bit_length` do.
-pub fn fill<M: Measure, O: Offset>(column: &M, unit: Unit, out: &mut [O]) -> Result<usize, LengthFault>
+pub fn fill<M: Measure, O: Offset>(
+    column: &M,
+    unit: Unit,
+    out: &mut [O],
+) -> Result<usize, LengthFault>
     ensures answer { λ r. ⌜ r ≡ answered unit (O·Offset .ceiling) (M·Measure .lengths (now (column .entry))) (size (now (out .entry))) ⌝ }
     ensures after { λ r. ⌜ map (O·Offset .number) (now (out .exit)) ≡ filled unit (O·Offset .ceiling) (M·Measure .lengths (now (column .entry))) (map (O·Offset .number) (now (out .entry))) ⌝ }
     ensures kept { λ _. ⌜ (size (now (out .entry)) < size (M·Measure .lengths (now (column .entry))) → now (out .exit) ≡ now (out .entry)) ⌝ }

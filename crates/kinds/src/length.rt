@@ -17,19 +17,34 @@ use kernels::length::Unit;
 use kernels::length::fill;
 
 // Writes lengths into the list of the width that is meant; the other list stays.
-fn choose<M: Measure>(column: &M, unit: Unit, is_wide: bool, narrow: &mut [i32], wide: &mut [i64]) -> Result<usize, LengthFault>
+fn choose<M: Measure>(
+    column: &M,
+    unit: Unit,
+    is_wide: bool,
+    narrow: &mut [i32],
+    wide: &mut [i64],
+) -> Result<usize, LengthFault>
     ensures answer { λ r. ⌜ r ≡ answered unit (ceiling «is_wide») (M·Measure .lengths (now (column .entry))) (room «is_wide» (now (narrow .entry)) (now (wide .entry))) ⌝ }
     ensures narrow { λ _. ⌜ now (narrow .exit) ≡ cond «is_wide» (now (narrow .entry)) (filled unit 2147483647 (M·Measure .lengths (now (column .entry))) (now (narrow .entry))) ⌝ }
     ensures wide { λ _. ⌜ now (wide .exit) ≡ cond «is_wide» (filled unit 9223372036854775807 (M·Measure .lengths (now (column .entry))) (now (wide .entry))) (now (wide .entry)) ⌝ }
 {
-    if is_wide { fill(column, unit, wide) } else { fill(column, unit, narrow) }
+    if is_wide {
+        fill(column, unit, wide)
+    } else {
+        fill(column, unit, narrow)
+    }
 }
 
 /// Writes the length of every row in the unit, null rows too, into the list of the kind's width: 32 bits, or 64 for the
 /// large kinds. Places past the rows, and the other list, stay. Answers how many numbers do not fit the width and are
 /// wrapped. Refuses by 15 where the operation lacks the kind, and by 12 where the list is shorter than the rows, with
 /// nothing written. The lengths themselves always fit the width.
-pub fn measure(column: &Column<'_>, unit: Unit, narrow: &mut [i32], wide: &mut [i64]) -> Result<usize, KindFault>
+pub fn measure(
+    column: &Column<'_>,
+    unit: Unit,
+    narrow: &mut [i32],
+    wide: &mut [i64],
+) -> Result<usize, KindFault>
     ensures answer { λ r. ⌜ r ≡ answer (over-of unit) (measured (now (column .entry))) (now (narrow .entry)) (now (wide .entry)) ⌝ }
     ensures narrow { λ _. ⌜ now (narrow .exit) ≡ narrow-after (in-width unit) (measured (now (column .entry))) (now (narrow .entry)) ⌝ }
     ensures wide { λ _. ⌜ now (wide .exit) ≡ wide-after (in-width unit) (measured (now (column .entry))) (now (wide .entry)) ⌝ }
@@ -57,7 +72,11 @@ pub fn length(column: &Column<'_>, narrow: &mut [i32], wide: &mut [i64]) -> Resu
 
 /// Writes eight times the length of every row, wrapped in the kind's width, and answers how many rows do not fit it, null
 /// rows counted too. Example: a Utf8 row of 268,435,456 bytes gives -2,147,483,648, counted.
-pub fn bit_length(column: &Column<'_>, narrow: &mut [i32], wide: &mut [i64]) -> Result<usize, KindFault>
+pub fn bit_length(
+    column: &Column<'_>,
+    narrow: &mut [i32],
+    wide: &mut [i64],
+) -> Result<usize, KindFault>
     ensures answer { λ r. ⌜ r ≡ answer (over-of Unit.Bits) (measured (now (column .entry))) (now (narrow .entry)) (now (wide .entry)) ⌝ }
     ensures narrow { λ _. ⌜ now (narrow .exit) ≡ narrow-after (in-width Unit.Bits) (measured (now (column .entry))) (now (narrow .entry)) ⌝ }
     ensures wide { λ _. ⌜ now (wide .exit) ≡ wide-after (in-width Unit.Bits) (measured (now (column .entry))) (now (wide .entry)) ⌝ }

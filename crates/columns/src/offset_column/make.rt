@@ -82,7 +82,13 @@ impl<'a> OffsetColumn<'a> {
     /// The column over these lists, or the first ground that holds against it: 1 for counts and sizes, 2 for the first
     /// offset that breaks the rules, 4 for the first row of a text column that is ill-formed.
     /// Example: rows 2, offsets 0 1 3, data "abc" has the rows "a" and "bc".
-    pub fn new(text: bool, rows: usize, offsets: Offsets<'a>, data: &'a [u8], validity: Option<Bitmap<'a>>) -> Result<OffsetColumn<'a>, ColumnFault>
+    pub fn new(
+        text: bool,
+        rows: usize,
+        offsets: Offsets<'a>,
+        data: &'a [u8],
+        validity: Option<Bitmap<'a>>,
+    ) -> Result<OffsetColumn<'a>, ColumnFault>
         ensures { λ r. ⌜ Made (record { text = text; rows = rows; offsets = offsets .entry; content = now («data» .entry); validity = validity .entry }) r ⌝ }
     {
         if !shaped(rows, offsets, validity) {
@@ -92,6 +98,12 @@ impl<'a> OffsetColumn<'a> {
         if text {
             check_texts(rows, offsets, data)?;
         }
-        Ok(OffsetColumn { text, rows, offsets, data, validity })
+        Ok(OffsetColumn {
+            text,
+            rows,
+            offsets,
+            data,
+            validity,
+        })
     }
 }

@@ -67,7 +67,11 @@ pub impl<'a> Source for OffsetColumn<'a> as OffsetColumnSource {
             return None;
         }
         let (base, bytes) = part(self.offsets, self.data, i);
-        Some(Row { valid: valid(self.validity, i), bytes: as_marked(self.text, bytes), base })
+        Some(Row {
+            valid: valid(self.validity, i),
+            bytes: as_marked(self.text, bytes),
+            base,
+        })
     }
 }
 

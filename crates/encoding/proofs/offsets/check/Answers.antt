@@ -18,11 +18,12 @@ read : (g : given.Over) (c : After-to-u64 g) → at (map (g .O·Offset .number) 
 read g c = at-number (g .O·Offset .number) (c .args .offsets .now) (c .loop-i .i) (c .index-offsets-i .result) (c .loop-i-test .taken) (c .index-offsets-i .is)
 
 wrong-at : (g : given.Over) (c : After-to-u64 g) → (Right (map (g .O·Offset .number) (c .args .offsets .now)) (c .args .end) (c .loop-i .i) → ⊥)
-  → First-wrong (map (g .O·Offset .number) (c .args .offsets .now)) (c .args .end) (c .loop-i .i)
+    → First-wrong (map (g .O·Offset .number) (c .args .offsets .now)) (c .args .end) (c .loop-i .i)
 wrong-at g c h = record {
   inside = subst (λ (n : ℕ). c .loop-i .i < n) (sym (length-map (c .args .offsets .now) (g .O·Offset .number))) (c .loop-i-test .taken);
   earlier = c .loop-i .inv .1;
-  wrong = h }
+  wrong = h;
+}
 
 pub returns-in-rest : need.returns-in-rest
 returns-in-rest g c =
@@ -42,10 +43,11 @@ returns-then-n-end g c =
 pub loop-i-again : need.loop-i-again
 loop-i-again g c =
     let h = c .in-Some .ensures tt in
-    let e = read g (need.at·loop-i-again g c .After-to-u64) ∙ h .0 in
-    (ap (before (map (g .O·Offset .number) (c .args .offsets .now))) (add-one (c .loop-i .i)) ∙ e,
-     below-more _ _ (c .loop-i .inv .1) (right-step (map (g .O·Offset .number) (c .args .offsets .now)) (c .args .end) (c .loop-i .i) _ _ e (c .loop-i .inv .0) (c .if-n-last .left) (c .if-n-end .left)),
-     below-more _ _ (c .loop-i .inv .2) (below-ceiling _ _ _ e (h .1)))
+    let e = read g (need.at·loop-i-again g c .After-to-u64) ∙ h .0 in (
+      ap (before (map (g .O·Offset .number) (c .args .offsets .now))) (add-one (c .loop-i .i)) ∙ e,
+      below-more _ _ (c .loop-i .inv .1) (right-step (map (g .O·Offset .number) (c .args .offsets .now)) (c .args .end) (c .loop-i .i) _ _ e (c .loop-i .inv .0) (c .if-n-last .left) (c .if-n-end .left)),
+      below-more _ _ (c .loop-i .inv .2) (below-ceiling _ _ _ e (h .1)),
+    )
 
 pub returns : need.returns
 returns g c =

@@ -24,7 +24,8 @@ returns-in-rest c =
     let u : Unreadable s p = record {
       inside = omega (arith, i .0, c .loop-rest-test .taken);
       before = i .2;
-      stops = λ n f. c .in-rest .ensures tt n (subst (λ (l : List ℕ). Front l n) (sym (i .1)) f) } in
+      stops = λ n f. c .in-rest .ensures tt n (subst (λ (l : List ℕ). Front l n) (sym (i .1)) f);
+    } in
     record { answer = (u, unreadable-no-text s p u); law = rfc3629 }
 
 pub loop-rest-less : need.loop-rest-less
@@ -39,10 +40,11 @@ loop-rest-again c =
     let n = c .in-Some .n in
     let f = c .in-Some .ensures tt in
     let i = c .loop-rest .inv in
-    let r = reaches-more s (i .2 .0) p n (c .loop-rest .rest .now) (omega (arith, i .0), i .2 .1) (i .1) (f .0) in
-    (omega (arith, i .0, ap length (f .1), f .0 .0, length-drop n (c .loop-rest .rest .now)),
-     f .1 ∙ ap (drop n) (i .1) ∙ drop-drop n p s,
-     (i .2 .0 + 1, r .1))
+    let r = reaches-more s (i .2 .0) p n (c .loop-rest .rest .now) (omega (arith, i .0), i .2 .1) (i .1) (f .0) in (
+      omega (arith, i .0, ap length (f .1), f .0 .0, length-drop n (c .loop-rest .rest .now)),
+      f .1 ∙ ap (drop n) (i .1) ∙ drop-drop n p s,
+      (i .2 .0 + 1, r .1),
+    )
 
 pub returns : need.returns
 returns c =

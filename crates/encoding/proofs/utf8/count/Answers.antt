@@ -19,13 +19,16 @@ loop-b-again c =
     let l = c .loop-b-test .taken in
     let v = c .loop-b .inv in
     elim (c .if-not-tail .came) [
-      then-not-tail w ↦
-        (omega (arith, w .n-is, v .0),
-         w .n-is ∙ ap (λ (n : ℕ). n + 1) (v .1)
-         ∙ sym (countBy-more-yes leads s i 0 l (leads-yes _ (not-from-decides _ (c .tail .ensures) (w .if-not-tail .taken)))))
-    | else-not-tail w ↦
-        (omega (arith, w .n-is, v .0),
-         w .n-is ∙ v .1 ∙ sym (countBy-more-no leads s i 0 l (leads-no _ (c .tail .ensures .0 (w .if-not-tail .left))))) ]
+      | then-not-tail w ↦ (
+        omega (arith, w .n-is, v .0),
+        w .n-is ∙ ap (λ (n : ℕ). n + 1) (v .1)
+            ∙ sym (countBy-more-yes leads s i 0 l (leads-yes _ (not-from-decides _ (c .tail .ensures) (w .if-not-tail .taken)))),
+      )
+      | else-not-tail w ↦ (
+        omega (arith, w .n-is, v .0),
+        w .n-is ∙ v .1 ∙ sym (countBy-more-no leads s i 0 l (leads-no _ (c .tail .ensures .0 (w .if-not-tail .left)))),
+      )
+    ]
 
 pub returns : need.returns
 returns c =

@@ -25,14 +25,15 @@ pub returns-in-rest : need.returns-in-rest
 returns-in-rest c =
     let s = c .args .s .now in
     elim (c .in-rest .came) [
-      in-rest·by·then-s-lt1 w ↦ not-found s (λ h _. omega (arith, ltb-true, ltb-false)) (λ h _. omega (arith, ltb-true, ltb-false)) (λ h _. omega (arith, ltb-true, ltb-false)) (λ h _. omega (arith, ltb-true, ltb-false))
-    | in-rest·by·in-len1-up·else-one·then-s-lt2 w ↦
-        not-found s (λ _. not-from-decides _ (w .one .ensures) (w .if-one .left)) (λ h _. omega (arith, ltb-true, ltb-false)) (λ h _. omega (arith, ltb-true, ltb-false)) (λ h _. omega (arith, ltb-true, ltb-false))
-    | in-rest·by·in-len2-up·else-two·then-s-lt3 w ↦
-        not-found s (λ _. not-from-decides _ (w .one .ensures) (w .if-one .left)) (λ _. not-from-decides _ (w .two .ensures) (w .if-two .left)) (λ h _. omega (arith, ltb-true, ltb-false)) (λ h _. omega (arith, ltb-true, ltb-false))
-    | in-rest·by·in-len3-up·else-three·then-s-lt4 w ↦
-        not-found s (λ _. not-from-decides _ (w .one .ensures) (w .if-one .left)) (λ _. not-from-decides _ (w .two .ensures) (w .if-two .left))
-        (λ _. not-from-decides _ (w .three .ensures) (w .if-three .left)) (λ h _. omega (arith, ltb-true, ltb-false))
-    | in-rest·by·in-len4-up·else-four w ↦
-        not-found s (λ _. not-from-decides _ (w .one .ensures) (w .if-one .left)) (λ _. not-from-decides _ (w .two .ensures) (w .if-two .left))
-        (λ _. not-from-decides _ (w .three .ensures) (w .if-three .left)) (λ _. not-from-decides _ (w .four .ensures) (w .if-four .left)) ]
+      | in-rest·by·then-s-lt1 w ↦ not-found s (λ h _. omega (arith, ltb-true, ltb-false)) (λ h _. omega (arith, ltb-true, ltb-false)) (λ h _. omega (arith, ltb-true, ltb-false)) (λ h _. omega (arith, ltb-true, ltb-false))
+      | in-rest·by·in-len1-up·else-one·then-s-lt2 w ↦
+          not-found s (λ _. not-from-decides _ (w .one .ensures) (w .if-one .left)) (λ h _. omega (arith, ltb-true, ltb-false)) (λ h _. omega (arith, ltb-true, ltb-false)) (λ h _. omega (arith, ltb-true, ltb-false))
+      | in-rest·by·in-len2-up·else-two·then-s-lt3 w ↦
+          not-found s (λ _. not-from-decides _ (w .one .ensures) (w .if-one .left)) (λ _. not-from-decides _ (w .two .ensures) (w .if-two .left)) (λ h _. omega (arith, ltb-true, ltb-false)) (λ h _. omega (arith, ltb-true, ltb-false))
+      | in-rest·by·in-len3-up·else-three·then-s-lt4 w ↦
+          not-found s (λ _. not-from-decides _ (w .one .ensures) (w .if-one .left)) (λ _. not-from-decides _ (w .two .ensures) (w .if-two .left))
+          (λ _. not-from-decides _ (w .three .ensures) (w .if-three .left)) (λ h _. omega (arith, ltb-true, ltb-false))
+      | in-rest·by·in-len4-up·else-four w ↦
+          not-found s (λ _. not-from-decides _ (w .one .ensures) (w .if-one .left)) (λ _. not-from-decides _ (w .two .ensures) (w .if-two .left))
+          (λ _. not-from-decides _ (w .three .ensures) (w .if-three .left)) (λ _. not-from-decides _ (w .four .ensures) (w .if-four .left))
+    ]

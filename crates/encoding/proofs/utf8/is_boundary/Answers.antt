@@ -16,4 +16,5 @@ pub returns : need.returns
 returns c =
     record {
       tells = decides-like _ (λ n. inr (inr (c .if-p-s .left, n))) (λ b u. grind (arith, tests)) (decides-not _ (c .tail .ensures));
-      law = boundaries }
+      law = boundaries;
+    }

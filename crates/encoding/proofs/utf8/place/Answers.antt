@@ -20,16 +20,17 @@ add-p c =
 pub loop-again : need.loop-again
 loop-again c =
     let f = c .in-Some .ensures tt in
-    let i = c .loop .inv in
-    (f .1 ∙ ap (drop (c .in-Some .n)) (i .0) ∙ drop-drop (c .in-Some .n) (c .loop .p) (c .args .s .now),
-     reaches-more _ _ _ _ _ (i .1) (i .0) (f .0))
+    let i = c .loop .inv in (
+      f .1 ∙ ap (drop (c .in-Some .n)) (i .0) ∙ drop-drop (c .in-Some .n) (c .loop .p) (c .args .s .now),
+      reaches-more _ _ _ _ _ (i .1) (i .0) (f .0),
+    )
 
 pub returns-in-rest : need.returns-in-rest
 returns-in-rest c =
     let s : List ℕ = c .args .s .now in
     let i = c .loop .inv in
     let h = reaches-none s (c .loop .counter) (c .args .k) (c .loop .p) (i .1) (c .loop-test .taken)
-      (λ n f. c .in-rest .ensures tt n (subst (λ (l : List ℕ). Front l n) (sym (i .0)) f)) in
+    (λ n f. c .in-rest .ensures tt n (subst (λ (l : List ℕ). Front l n) (sym (i .0)) f)) in
     record { reads = h; text = λ n t. not-reached s n (c .args .k) t h }
 
 pub returns : need.returns

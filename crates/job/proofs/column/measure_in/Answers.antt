@@ -23,16 +23,20 @@ rows g c = cases-at-some _ _ (c .in-Some .lists) (c .in-Some .is) (c .in-Continu
 
 abbrev lists : (g : given.Over) → After-new g → Lists
 lists g c = record {
-  text = c .args .text; rows = c .in-Some .lists .rows; offsets = c .lend-offsets .result; content = c .as-slice-3 .result .now;
-  validity = Some (record { bytes = c .as-slice-2 .result; start = 0 }) }
+  text = c .args .text;
+  rows = c .in-Some .lists .rows;
+  offsets = c .lend-offsets .result;
+  content = c .as-slice-3 .result .now;
+  validity = Some (record { bytes = c .as-slice-2 .result; start = 0 });
+}
 
 over : (g : given.Over) (c : After-new g) → Over (lists g c) (rows g c .0)
 over g c =
     over-from (g .O·Offset .number) (c .in-Some .lists) (rows g c .0) (c .args .part .now) (c .args .text) (c .lend-offsets .result) (c .as-slice-3 .result .now) _
-      (rows g c .2) (rows g c .1) (c .pre)
-      (subst (λ (x : ℕ). 2147483647 ≤ x) (sym (c .lend-offsets .ensures .ceiling)) (g .O·Offset·met .least))
-      (c .lend-offsets .ensures .numbers ∙ ap (map (g .O·Offset .number)) (c .as-slice .ensures .value))
-      (c .as-slice-3 .ensures .value) (c .as-slice-2 .ensures .value) refl
+    (rows g c .2) (rows g c .1) (c .pre)
+    (subst (λ (x : ℕ). 2147483647 ≤ x) (sym (c .lend-offsets .ensures .ceiling)) (g .O·Offset·met .least))
+    (c .lend-offsets .ensures .numbers ∙ ap (map (g .O·Offset .number)) (c .as-slice .ensures .value))
+    (c .as-slice-3 .ensures .value) (c .as-slice-2 .ensures .value) refl
 
 pub returns-in-Break-column : need.returns-in-Break-column
 returns-in-Break-column g c =
@@ -48,4 +52,4 @@ returns g c =
     let rs = rows g a .0 in
     let h = made-over l rs (Ok (c .in-Continue-column .column)) (over g a) (c .in-Continue-column .ensures tt) in
     part-from (c .args .unit) l rs (g .O·Offset .ceiling) (c .args .part .now) (c .lengths-of .result) (rows g a .1) (h .texts) (h .lengths-are) (h .nulls-are)
-      (c .lend-offsets .ensures .ceiling) (subst (λ (x : Lists). Measured-as (c .args .unit) x (c .lengths-of .result)) (h .lists-are) (c .lengths-of .ensures))
+    (c .lend-offsets .ensures .ceiling) (subst (λ (x : Lists). Measured-as (c .args .unit) x (c .lengths-of .result)) (h .lists-are) (c .lengths-of .ensures))

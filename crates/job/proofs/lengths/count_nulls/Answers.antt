@@ -21,15 +21,18 @@ loop-i-again g c =
     let v = c .loop-i .inv in
     let m = c .in-Some .ensures tt in
     let d = row-of (c .in-Some .row) in
-    let at : getD rs i d .valid ≡ c .in-Some .row .valid = ap (λ (r : Source-row). r .valid) (m .1 d) in
-    (elim (c .if-not-row .came) [
-       then-not-row w ↦ omega (arith, w .n-is, v .0)
-     | else-not-row w ↦ omega (arith, w .n-is, v .0) ],
-     elim (c .if-not-row .came) [
-       then-not-row w ↦ w .n-is ∙ ap (λ (n : ℕ). n + 1) (v .1)
-         ∙ sym (countBy-more-yes (λ (r : Source-row). not (r .valid)) rs i d (m .0) (not-from-false _ (at ∙ w .if-not-row .taken)))
-     | else-not-row w ↦ w .n-is ∙ v .1
-         ∙ sym (countBy-more-no (λ (r : Source-row). not (r .valid)) rs i d (m .0) (not-from-true _ (at ∙ w .if-not-row .left))) ])
+    let at : getD rs i d .valid ≡ c .in-Some .row .valid = ap (λ (r : Source-row). r .valid) (m .1 d) in (
+      elim (c .if-not-row .came) [
+        | then-not-row w ↦ omega (arith, w .n-is, v .0)
+        | else-not-row w ↦ omega (arith, w .n-is, v .0)
+      ],
+      elim (c .if-not-row .came) [
+        | then-not-row w ↦ w .n-is ∙ ap (λ (n : ℕ). n + 1) (v .1)
+            ∙ sym (countBy-more-yes (λ (r : Source-row). not (r .valid)) rs i d (m .0) (not-from-false _ (at ∙ w .if-not-row .taken)))
+        | else-not-row w ↦ w .n-is ∙ v .1
+            ∙ sym (countBy-more-no (λ (r : Source-row). not (r .valid)) rs i d (m .0) (not-from-true _ (at ∙ w .if-not-row .left)))
+      ],
+    )
 
 pub returns : need.returns
 returns g c =

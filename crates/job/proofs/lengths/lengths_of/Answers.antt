@@ -54,14 +54,16 @@ returns c =
     let ns = c .args .narrow .now in
     let ws = c .args .wide .now in
     let k = c .in-Continue-wrapped .ensures tt in
-    let h = granted-is u w ls ns ws _ (room-is w ns ws (c .pre .places .0) (c .pre .places .1)) (k .answer) in
-    (h .1,
-     record {
-       rows-are = c .len-rows .ensures;
-       nulls-are = c .count-nulls-nulls .ensures;
-       wrapped-are = h .0 ∙ ap (λ (x : ℕ). over-in u x ls) (sym (ceiling-by (l .offsets)));
-       numbers-are = c .in-Continue-numbers .ensures tt
-         ∙ ap (λ (n : ℕ). take n (cond (c .is-wide-is-wide .result) (c .measure .last .wide) (c .measure .last .narrow))) (c .len-rows .ensures)
-         ∙ ap (λ (b : Bool). take (length ls) (cond b (c .measure .last .wide) (c .measure .last .narrow))) (c .is-wide-is-wide .ensures .value)
-         ∙ front-is u w ls ns ws (c .measure .last .narrow) (c .measure .last .wide) (c .pre .places .0) (c .pre .places .1) (h .1) (k .narrow) (k .wide)
-         ∙ ap (λ (x : ℕ). numbers-in u x ls) (sym (ceiling-by (l .offsets))) })
+    let h = granted-is u w ls ns ws _ (room-is w ns ws (c .pre .places .0) (c .pre .places .1)) (k .answer) in (
+      h .1,
+      record {
+        rows-are = c .len-rows .ensures;
+        nulls-are = c .count-nulls-nulls .ensures;
+        wrapped-are = h .0 ∙ ap (λ (x : ℕ). over-in u x ls) (sym (ceiling-by (l .offsets)));
+        numbers-are = c .in-Continue-numbers .ensures tt
+            ∙ ap (λ (n : ℕ). take n (cond (c .is-wide-is-wide .result) (c .measure .last .wide) (c .measure .last .narrow))) (c .len-rows .ensures)
+            ∙ ap (λ (b : Bool). take (length ls) (cond b (c .measure .last .wide) (c .measure .last .narrow))) (c .is-wide-is-wide .ensures .value)
+            ∙ front-is u w ls ns ws (c .measure .last .narrow) (c .measure .last .wide) (c .pre .places .0) (c .pre .places .1) (h .1) (k .narrow) (k .wide)
+            ∙ ap (λ (x : ℕ). numbers-in u x ls) (sym (ceiling-by (l .offsets)));
+      },
+    )

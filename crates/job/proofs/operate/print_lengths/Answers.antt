@@ -5,9 +5,11 @@ use Rattle.job.proofs.Printing.{measure-granted, measure-refused}
 use Rattle.job.proofs.operate.print_lengths.Needs as need
 
 pub returns-in-Continue-put-lengths : need.returns-in-Continue-put-lengths
-returns-in-Continue-put-lengths c =
-    (_, c .in-Continue-put-lengths .ensures tt,
-     measure-granted (records-of (c .args .columns .now)) (c .args .n) (c .args .unit) (c .args .column) (c .in-Ok .lengths) (c .in-Ok .ensures tt))
+returns-in-Continue-put-lengths c = (
+  _,
+  c .in-Continue-put-lengths .ensures tt,
+  measure-granted (records-of (c .args .columns .now)) (c .args .n) (c .args .unit) (c .args .column) (c .in-Ok .lengths) (c .in-Ok .ensures tt),
+)
 
 pub returns-in-Err : need.returns-in-Err
 returns-in-Err c =

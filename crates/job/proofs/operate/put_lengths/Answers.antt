@@ -13,5 +13,5 @@ pub returns : need.returns
 returns c =
     made-weaker (c .put-numbers .result) _ _
     (λ _ h. added-after (string-bytes (c .args .out .now)) (string-bytes (c .put-line .last .out)) _ _ _ (c .in-Continue-put-line .ensures tt)
-      (h ∙ ap (λ (zs : List ℤ). string-bytes (c .put-line .last .out) ++ joined number-line zs) (c .as-slice .ensures .value)))
+    (h ∙ ap (λ (zs : List ℤ). string-bytes (c .put-line .last .out) ++ joined number-line zs) (c .as-slice .ensures .value)))
     (c .put-numbers .ensures)

@@ -15,7 +15,7 @@ use Rattle.job.specs.Lines.{number-line}
 use Rattle.job.proofs.operate.put_numbers.Needs as need
 
 one-more : (start before after : List ℕ) (ns : List ℤ) (i : ℕ) (x : ℤ) → before ≡ start ++ joined number-line (take i ns) → after ≡ before ++ number-line x
-  → i < length ns → x ≡ getD ns i (pos 0) → after ≡ start ++ joined number-line (take (i + 1) ns)
+    → i < length ns → x ≡ getD ns i (pos 0) → after ≡ start ++ joined number-line (take (i + 1) ns)
 one-more start before after ns i x b e h q =
     e ∙ ap (λ (s : List ℕ). s ++ number-line x) b ∙ ap (λ (z : ℤ). (start ++ joined number-line (take i ns)) ++ number-line z) q
     ∙ joined-more number-line start (take i ns) (getD ns i (pos 0)) ∙ ap (λ (zs : List ℤ). start ++ joined number-line zs) (sym (take-more ns i (pos 0) h))
@@ -26,7 +26,7 @@ loop-n-again c =
     let i = c .loop-n .n-index in
     let f : SFits w64 (getD ns i (pos 0)) = search needs in
     one-more (string-bytes (c .args .out .now)) (string-bytes (c .loop-n .out)) (string-bytes (c .put-number .last .out)) ns i _ (c .loop-n .inv)
-      (c .in-Continue-put-number .ensures tt) (c .loop-n-test .taken) (omega (arith, ints))
+    (c .in-Continue-put-number .ensures tt) (c .loop-n-test .taken) (omega (arith, ints))
 
 pub returns : need.returns
 returns c =

@@ -14,7 +14,9 @@ returns-in-rest c =
 
 pub returns : need.returns
 returns c =
-    let h = cases-at-some _ _ (c .in-Some-3 .checked) (c .in-Some-3 .is) (c .in-Continue-checked .ensures tt) in
-    (h .0, h .1,
-     subst (λ (a : Option JobFault). Column-answer (c .args .format) (h .0) (numbered a)) (sym (c .in-column .ensures))
-     (answer-is (c .args .format) (c .in-Some .known) (h .0) (c .in-Some-3 .checked) (sym (c .built .ensures) ∙ c .in-Some .is) (h .2)))
+    let h = cases-at-some _ _ (c .in-Some-3 .checked) (c .in-Some-3 .is) (c .in-Continue-checked .ensures tt) in (
+      h .0,
+      h .1,
+      subst (λ (a : Option JobFault). Column-answer (c .args .format) (h .0) (numbered a)) (sym (c .in-column .ensures))
+          (answer-is (c .args .format) (c .in-Some .known) (h .0) (c .in-Some-3 .checked) (sym (c .built .ensures) ∙ c .in-Some .is) (h .2)),
+    )

@@ -20,7 +20,8 @@ returns-then-rows-out g c =
     record {
       answer = sym (cond-true (ltb (length (c .args .out .now)) (length ls)) _ _ (lt-ltb _ _ h));
       after = sym (cond-true (ltb (length (map (g .O·Offset .number) (c .args .out .now))) (length ls)) _ _ (lt-ltb _ _ (omega (arith, n, h))));
-      kept = λ _. refl }
+      kept = λ _. refl;
+    }
 
 pub returns-in-rest : need.returns-in-rest
 returns-in-rest g c = absurd (omega (arith, c .in-rest .ensures tt, c .loop-i-test .taken, c .len-rows .ensures))
@@ -35,16 +36,19 @@ loop-i-again g c =
     let m = c .in-Some .ensures tt in
     let w = c .in-width-number .ensures in
     let v = c .loop-i .inv in
-    let fits = w .1 ∙ ap (λ (n : ℕ). leb (in-unit u n) k) (m .1) in
-    (one-more (λ (n : ℕ). wrapped k (in-unit u n)) (g .O·Offset .number) ls s (c .loop-i .out) i (c .in-width-number .result .0) (v .0) (m .0)
-       (omega (arith, length-map (c .args .out .now) (g .O·Offset .number), c .if-rows-out .left, c .len-rows .ensures))
-       (w .0 ∙ ap (λ (n : ℕ). wrapped k (in-unit u n)) (m .1)),
-     elim (c .if-not-fits .came) [
-       then-not-fits z ↦ z .over-is ∙ ap (λ (n : ℕ). n + 1) (v .1) ∙ sym (over-more u k ls i _ (m .0) fits (z .if-not-fits .taken))
-     | else-not-fits z ↦ z .over-is ∙ v .1 ∙ sym (over-same u k ls i _ (m .0) fits (z .if-not-fits .left)) ],
-     elim (c .if-not-fits .came) [
-       then-not-fits z ↦ omega (arith, z .over-is, v .2)
-     | else-not-fits z ↦ omega (arith, z .over-is, v .2) ])
+    let fits = w .1 ∙ ap (λ (n : ℕ). leb (in-unit u n) k) (m .1) in (
+      one-more (λ (n : ℕ). wrapped k (in-unit u n)) (g .O·Offset .number) ls s (c .loop-i .out) i (c .in-width-number .result .0) (v .0) (m .0)
+          (omega (arith, length-map (c .args .out .now) (g .O·Offset .number), c .if-rows-out .left, c .len-rows .ensures))
+          (w .0 ∙ ap (λ (n : ℕ). wrapped k (in-unit u n)) (m .1)),
+      elim (c .if-not-fits .came) [
+        | then-not-fits z ↦ z .over-is ∙ ap (λ (n : ℕ). n + 1) (v .1) ∙ sym (over-more u k ls i _ (m .0) fits (z .if-not-fits .taken))
+        | else-not-fits z ↦ z .over-is ∙ v .1 ∙ sym (over-same u k ls i _ (m .0) fits (z .if-not-fits .left))
+      ],
+      elim (c .if-not-fits .came) [
+        | then-not-fits z ↦ omega (arith, z .over-is, v .2)
+        | else-not-fits z ↦ omega (arith, z .over-is, v .2)
+      ],
+    )
 
 pub returns : need.returns
 returns g c =
@@ -58,5 +62,6 @@ returns g c =
     record {
       answer = answered-all u k ls (length (c .args .out .now)) (c .loop-i .i) (c .loop-i .over) room (omega (arith, c .loop-i-test .left, c .len-rows .ensures)) (v .1);
       after = filled-all u k ls s (map (g .O·Offset .number) (c .loop-i .out)) (c .loop-i .i) (omega (arith, n, room))
-        (omega (arith, c .loop-i-test .left, c .len-rows .ensures, c .loop-i .kept .i-end)) (v .0);
-      kept = λ h. absurd (omega (arith, h, room)) }
+          (omega (arith, c .loop-i-test .left, c .len-rows .ensures, c .loop-i .kept .i-end)) (v .0);
+      kept = λ h. absurd (omega (arith, h, room));
+    }

@@ -15,7 +15,8 @@ returns-then-is-wide g c =
       answer = c .fill .ensures .answer ∙ ap (λ (b : Bool). answered (c .args .unit) (ceiling b) ls (room b ns ws)) (sym (c .if-is-wide .taken));
       narrow = sym (cond-true (c .args .is-wide) ns _ (c .if-is-wide .taken));
       wide = sym (map-id _) ∙ c .fill .ensures .after ∙ ap (filled (c .args .unit) 9223372036854775807 ls) (map-id ws)
-        ∙ sym (cond-true (c .args .is-wide) _ ws (c .if-is-wide .taken)) }
+          ∙ sym (cond-true (c .args .is-wide) _ ws (c .if-is-wide .taken));
+    }
 
 pub returns-else-is-wide : need.returns-else-is-wide
 returns-else-is-wide g c =
@@ -25,5 +26,6 @@ returns-else-is-wide g c =
     record {
       answer = c .fill-else-is-wide .ensures .answer ∙ ap (λ (b : Bool). answered (c .args .unit) (ceiling b) ls (room b ns ws)) (sym (c .if-is-wide .left));
       narrow = sym (map-id _) ∙ c .fill-else-is-wide .ensures .after ∙ ap (filled (c .args .unit) 2147483647 ls) (map-id ns)
-        ∙ sym (cond-false (c .args .is-wide) ns _ (c .if-is-wide .left));
-      wide = sym (cond-false (c .args .is-wide) _ ws (c .if-is-wide .left)) }
+          ∙ sym (cond-false (c .args .is-wide) ns _ (c .if-is-wide .left));
+      wide = sym (cond-false (c .args .is-wide) _ ws (c .if-is-wide .left));
+    }

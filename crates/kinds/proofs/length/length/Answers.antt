@@ -13,7 +13,8 @@ returns-in-Break-measure c =
     record {
       answer = p .1 ∙ ap Err (p .2) ∙ answer-refused m (c .args .narrow .now) (c .args .wide .now) _ (h .answer);
       narrow = h .narrow ∙ narrow-true m (c .args .narrow .now) (h .low);
-      wide = h .wide ∙ wide-true m (c .args .wide .now) (h .low) }
+      wide = h .wide ∙ wide-true m (c .args .wide .now) (h .low);
+    }
 
 pub returns : need.returns
 returns c =
@@ -22,4 +23,5 @@ returns c =
     record {
       answer = answer-granted m (c .args .narrow .now) (c .args .wide .now) _ (h .answer);
       narrow = h .narrow ∙ narrow-true m (c .args .narrow .now) (h .low);
-      wide = h .wide ∙ wide-true m (c .args .wide .now) (h .low) }
+      wide = h .wide ∙ wide-true m (c .args .wide .now) (h .low);
+    }

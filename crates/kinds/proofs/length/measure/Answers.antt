@@ -36,7 +36,8 @@ returns-in-Break-over c =
       answer = p .1 ∙ ap Err (p .2 ∙ ap Length (k .0)) ∙ answer-err (over-of (c .args .unit)) (measured (c .args .column .now)) (of a) (c .args .narrow .now) (c .args .wide .now) (is a) (k .1);
       narrow = narrow-list a;
       wide = wide-list a;
-      low = low-all a }
+      low = low-all a;
+    }
 
 pub returns-in-Continue-over : need.returns-in-Continue-over
 returns-in-Continue-over c =
@@ -46,4 +47,5 @@ returns-in-Continue-over c =
       answer = ap Ok (k .0) ∙ answer-ok (over-of (c .args .unit)) (measured (c .args .column .now)) (of a) (c .args .narrow .now) (c .args .wide .now) (is a) (k .1);
       narrow = narrow-list a;
       wide = wide-list a;
-      low = low-all a }
+      low = low-all a;
+    }

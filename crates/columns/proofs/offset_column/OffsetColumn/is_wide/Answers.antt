@@ -12,4 +12,5 @@ returns c =
     record {
       value = c .is-wide .ensures;
       low = λ i h.
-        omega (arith, length-in l i (omega (arith, count-lengths l, h)), length-bytes-shown (l .offsets) (l .content) i) }
+          omega (arith, length-in l i (omega (arith, count-lengths l, h)), length-bytes-shown (l .offsets) (l .content) i);
+    }

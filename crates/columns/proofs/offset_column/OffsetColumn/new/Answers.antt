@@ -17,7 +17,7 @@ returns-in-Break-check-texts c =
     let p = err-from-errBy (c .from-residual-in-Break-check-texts .result) (c .from-residual-in-Break-check-texts .ensures .1) in
     rw (p .1, p .2)
     (refused-text l (c .in-Break-check-texts .field-0 .0) (shaped-from l (c .if-not-shaped .ensures tt .0 refl)) (c .in-Continue-check .ensures tt)
-      (c .if-text .taken) (c .in-Break-check-texts .ensures tt))
+    (c .if-text .taken) (c .in-Break-check-texts .ensures tt))
 
 pub returns : need.returns
 returns c =
@@ -26,5 +26,6 @@ returns c =
     let o = c .in-Continue-check .ensures tt in
     granted l _ refl s o
     (elim (c .if-text .came) [
-      then-text·in-Continue-check-texts w ↦ texts-shown l s o (w .in-Continue-check-texts .ensures tt)
-    | else-text w ↦ λ e. absurd (both-ways (c .args .text) (w .if-text .left) e) ])
+      | then-text·in-Continue-check-texts w ↦ texts-shown l s o (w .in-Continue-check-texts .ensures tt)
+      | else-text w ↦ λ e. absurd (both-ways (c .args .text) (w .if-text .left) e)
+    ])

@@ -18,8 +18,9 @@ negative (negsuc n) h = refl
 zero-at : (o : Offsets) (k : ℕ) → (k < length (numbers o) → (n : ℕ) → at (numbers o) k ≡ pos n → ⊥) → 0 ≡ reached o k
 zero-at o k h =
     elim (cases-lt k (length (numbers o))) [
-      inl l ↦ omega (arith, negative (at (numbers o) k) (h l))
-    | inr l ↦ omega (arith, ap place (getD-past (numbers o) k (pos 0) l)) ]
+      | inl l ↦ omega (arith, negative (at (numbers o) k) (h l))
+      | inr l ↦ omega (arith, ap place (getD-past (numbers o) k (pos 0) l))
+    ]
 
 pub returns-in-Some : need.returns-in-Some
 returns-in-Some c = let h = c .in-Some .ensures tt in omega (arith, ap place (h .1), h .2)

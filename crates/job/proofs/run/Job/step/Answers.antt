@@ -30,14 +30,17 @@ returns-in-rest c =
 
 pub take-requires : need.take-requires
 take-requires c κs =
-    omega (arith, part-small (c .args .self .now .rest .now) (c .in-Ok .after .now) (c .in-Ok .found) (c .in-Column .format) (c .in-Column .rows) (c .in-Column .is) (c .in-Ok .ensures tt .reads),
-      c .if-self-gt65536 .left)
+    omega (
+      arith,
+      part-small (c .args .self .now .rest .now) (c .in-Ok .after .now) (c .in-Ok .found) (c .in-Column .format) (c .in-Column .rows) (c .in-Column .is) (c .in-Ok .ensures tt .reads),
+      c .if-self-gt65536 .left,
+    )
 
 pub returns-in-Column : need.returns-in-Column
 returns-in-Column c =
     made-weaker (c .take .result) _ _
     (λ b h. took-stepped (state-of (c .args .self .now)) _ (c .in-Ok .found) (c .in-Column .format) (c .in-Column .rows) (c .in-Ok .after .now) (string-bytes (c .args .out .now)) _ b
-      (omega arith) (c .if-self-gt65536 .left) (c .in-Column .is) (c .in-Ok .ensures tt .reads) (h .0) (h .1))
+    (omega arith) (c .if-self-gt65536 .left) (c .in-Column .is) (c .in-Ok .ensures tt .reads) (h .0) (h .1))
     (c .take .ensures)
 
 pub returns : need.returns
@@ -47,7 +50,7 @@ returns c =
     let cs = records-of (vec-items (c .args .self .now .columns)) in
     let h = c .in-Continue-operate .ensures tt (c .in-rest-found .not-Column) in
     let o : Operation cs (c .args .self .now .operations + 1) (c .in-Ok .found) (h .0) =
-      subst (λ (k : ℕ). Operation cs k (c .in-Ok .found) (h .0)) n
-      (subst (λ (es : List Entry). Operation (records-of es) (c .in-Some .n) (c .in-Ok .found) (h .0)) (c .as-slice .ensures .value) (h .2)) in
+    subst (λ (k : ℕ). Operation cs k (c .in-Ok .found) (h .0)) n
+    (subst (λ (es : List Entry). Operation (records-of es) (c .in-Some .n) (c .in-Ok .found) (h .0)) (c .as-slice .ensures .value) (h .2)) in
     subst (λ (k : ℕ). Made s (record { columns = cs; operations = k; rest = c .in-Ok .after .now }) (string-bytes (c .args .out .now)) (string-bytes (c .operate .last .out))) (sym n)
     (operated s (c .in-Ok .found) (c .in-Ok .after .now) (string-bytes (c .args .out .now)) (string-bytes (c .operate .last .out)) (h .0) (c .if-self-gt65536 .left) (c .in-Ok .ensures tt .reads) (h .1) o)

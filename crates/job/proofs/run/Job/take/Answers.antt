@@ -13,6 +13,8 @@ use Rattle.job.proofs.run.Job.take.Needs as need
 pub returns : need.returns
 returns c =
     let h = cases-at-some _ _ (c .in-Some .entry) (c .in-Some .is) (c .in-Continue-entry .ensures tt) in
-    let e = ap records-of (c .in-Continue-push .ensures tt .items) ∙ map-push record-of (vec-items (c .args .self .now .columns)) (c .in-Some .entry) in
-    (refl, taken (c .in-Some .entry) h
-      (ap (λ (cs : List Column-record). record { columns = cs; operations = c .args .self .now .operations; rest = c .args .after .now }) e))
+    let e = ap records-of (c .in-Continue-push .ensures tt .items) ∙ map-push record-of (vec-items (c .args .self .now .columns)) (c .in-Some .entry) in (
+      refl,
+      taken (c .in-Some .entry) h
+          (ap (λ (cs : List Column-record). record { columns = cs; operations = c .args .self .now .operations; rest = c .args .after .now }) e),
+    )

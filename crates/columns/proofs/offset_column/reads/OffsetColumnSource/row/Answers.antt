@@ -13,6 +13,7 @@ pub returns : need.returns
 returns c =
     let l = lists-of (c .args .self .now) in
     let h : c .args .i < count-shown l = omega (arith, c .if-i-min .left, c .min .ensures) in
-    let b = c .as-marked .ensures ∙ ap (readable (l .text)) (c .part-base .ensures .1) in
-    (omega (arith, count-rows l, h),
-     λ d. row-in l (c .args .i) d h ∙ (λ j. record { valid = sym (c .valid .ensures) j; bytes = sym b j; base = sym (c .part-base .ensures .0) j }))
+    let b = c .as-marked .ensures ∙ ap (readable (l .text)) (c .part-base .ensures .1) in (
+      omega (arith, count-rows l, h),
+      λ d. row-in l (c .args .i) d h ∙ (λ j. record { valid = sym (c .valid .ensures) j; bytes = sym b j; base = sym (c .part-base .ensures .0) j }),
+    )
