@@ -6,3 +6,4 @@ pub mod Growing
 pub mod Measuring
 pub mod Printing
 pub mod Stepping
+pub mod Unique

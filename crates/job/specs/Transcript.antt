@@ -160,3 +160,7 @@ pub data Runs : State → List ℕ → Type 0 where
 -- the transcript of a file
 abbrev pub Transcript : List ℕ → List ℕ → Type 0
 Transcript file out = Runs (record { columns = []; operations = 0; rest = file }) out
+
+-- a file has no two transcripts
+abbrev pub One-transcript : Type 0
+One-transcript = (file a b : List ℕ) → Transcript file a → Transcript file b → a ≡ b

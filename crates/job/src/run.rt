@@ -8,7 +8,7 @@ ghost use Rattle.std.specs.Of.String.{string-bytes};
 ghost use Rattle.std.specs.Vec.{made};
 ghost use Rattle.job.specs.Faults.{number as fault-number};
 ghost use Rattle.job.specs.Steps.{state-of, Stopped, Took, Stepped};
-ghost use Rattle.job.specs.Transcript.{Transcript};
+ghost use Rattle.job.specs.Transcript.{Transcript, One-transcript};
 use crate::entry::Entry;
 use crate::fault::JobFault;
 use crate::fault::JobFromAlloc;
@@ -98,9 +98,10 @@ impl<'a> Job<'a> {
     }
 }
 
-/// The transcript of a whole job file.
+/// The transcript of a whole job file. A file has no two.
 pub fn run(heap: Global, file: &[u8]) -> Result<String, JobFault>
-    ensures { λ r. ⌜ made r (λ s. Transcript (now (file .entry)) (string-bytes s)) ⌝ }
+    ensures value { λ r. ⌜ made r (λ s. Transcript (now (file .entry)) (string-bytes s)) ⌝ }
+    ensures only { λ _. ⌜ One-transcript ⌝ }
 {
     let mut out = String::new(heap);
     let mut job = Job::new(heap, file);

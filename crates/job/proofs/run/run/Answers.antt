@@ -5,6 +5,8 @@ use Rattle.std.specs.Of.String.{string-bytes}
 use Rattle.job.specs.Steps.{state-of, Stepped}
 use Rattle.job.specs.Transcript.{State}
 use Rattle.job.proofs.Stepping.{one-step, at-end}
+use Rattle.std.proofs.shelf.Results.{made-from-err}
+use Rattle.job.proofs.Unique.{one-transcript}
 use Rattle.job.proofs.run.run.Needs as need
 
 pub loop-job-again : need.loop-job-again
@@ -23,4 +25,9 @@ returns c =
     let t = state-of (c .step .last .self) in
     let before = string-bytes (c .loop-job .out) in
     let after = string-bytes (c .step .last .out) in
-    at-end start s t before after (c .loop-job .inv) (subst (Stepped s t before after) (c .if-branch .left) (c .in-Continue-step .ensures tt))
+    record {
+      value = at-end start s t before after (c .loop-job .inv) (subst (Stepped s t before after) (c .if-branch .left) (c .in-Continue-step .ensures tt));
+      only = one-transcript }
+
+pub returns-in-Break-step : need.returns-in-Break-step
+returns-in-Break-step c = record { value = made-from-err (c .from-residual .result) _ (c .from-residual .ensures .0); only = one-transcript }
