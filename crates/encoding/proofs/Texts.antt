@@ -48,27 +48,6 @@ chars-front none h = absurd (omega arith)
 chars-front (more {n = j} {c = c} {t = t} {s = s} h r e) l =
     (length c, (omega (arith, ap length e, length-append c t), subst Char (sym (ap (take (length c)) e ∙ take-at c t (length c) refl)) h))
 
-pub chars-more : {k : ℕ} {s : List ℕ} (n : ℕ) → Front s n → Chars k (drop n s) → Chars (suc k) s
-chars-more {s = s} n f r = more (f .1) r (sym (take-append-drop n s))
-
-pub text-more : {s : List ℕ} (n : ℕ) → Front s n → Text (drop n s) → Text s
-text-more n f t = (suc (t .0), chars-more n f (t .1))
-
-pub text-rest : {s : List ℕ} (n : ℕ) → Front s n → Text s → Text (drop n s)
-text-rest n f t = let r = chars-rest n (t .1) f in (r .0, r .2)
-
-pub text-end : {k : ℕ} (s : List ℕ) → Chars k s → ((n : ℕ) → Front s n → ⊥) → s ≡ []
-text-end [] t h = refl
-text-end (x ∷ s) t h = absurd (let f = chars-front t (omega arith) in h (f .0) (f .1))
-
-pub text-nil : (s : List ℕ) → length s ≡ 0 → Text s
-text-nil [] e = (0, none)
-text-nil (x ∷ s) e = absurd (omega arith)
-
--- after k characters, p bytes
-pub begins-none : (s : List ℕ) → Text s → Begins s 0 0
-begins-none s t = ([], s, refl, refl, none, t)
-
 -- characters before, and what follows
 pub chars-join : {j k : ℕ} {a b : List ℕ} → Chars j a → Chars k b → Chars (j + k) (a ++ b)
 chars-join {k = k} {b = b} none q = subst (λ (n : ℕ). Chars n b) (omega arith) q
@@ -78,25 +57,3 @@ chars-join {k = k} {b = b} (more {n = n} {c = c} {t = t} {s = s} h r e) q =
 
 pub one-char : {c : List ℕ} → Char c → Chars 1 c
 one-char {c} h = more h none (sym (append-nil c))
-
--- one character further on
-pub begins-more : (s : List ℕ) (k p n : ℕ) (rest : List ℕ) → Begins s k p → rest ≡ drop p s → Front rest n → Begins s (k + 1) (p + n)
-begins-more s k p n rest b e f =
-    let a = b .0 in
-    let t = b .1 in
-    let re : rest ≡ t = e ∙ ap (drop p) (b .2) ∙ drop-at a t p (b .3) in
-    let g : Front t n = subst (λ (l : List ℕ). Front l n) re f in (
-      a ++ take n t,
-      drop n t,
-      b .2 ∙ ap (λ (l : List ℕ). a ++ l) (sym (take-append-drop n t)) ∙ sym (append-assoc a (take n t) (drop n t)),
-      omega (arith, length-append a (take n t), length-take-le n t (g .0), b .3),
-      chars-join (b .4) (one-char (g .1)),
-      text-rest n g (b .5),
-    )
-
-pub begins-within : (s : List ℕ) (k p : ℕ) → Begins s k p → p ≤ length s
-begins-within s k p b = omega (arith, ap length (b .2), length-append (b .0) (b .1), b .3)
-
-pub chars-nil : {k : ℕ} {s : List ℕ} → Chars k s → s ≡ [] → k ≡ 0
-chars-nil none e = refl
-chars-nil (more {c = c} {t = t} h r q) e = absurd (omega (arith, char-size h .0, length-append c t, ap length q, ap length e))
