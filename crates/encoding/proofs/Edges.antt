@@ -11,7 +11,6 @@ use Rattle.std.proofs.shelf.Tests.{cases-lt}
 use Rattle.encoding.specs.Utf8.{Char, utf8-1, utf8-2, utf8-3a, utf8-3b, utf8-3c, utf8-3d, utf8-4a, utf8-4b, utf8-4c, Chars, none, more, Text, Begins, Boundary, Boundaries, Tail, Second, size-of}
 use Rattle.encoding.proofs.Chars.{char-size, two-to, three-to, four-to}
 
-
 tails2 : (a b i : ℕ) → Tail b → 0 < i → i < 2 → Tail (getD (a ∷ b ∷ []) i 0)
 tails2 x0 x1 zero t h k = absurd (omega arith)
 tails2 x0 x1 (suc zero) t h k = t

@@ -13,7 +13,8 @@ const ENOUGH: usize = 65_537;
 // The text is printed once so much of it stands ready, and at the end.
 const READY: usize = 4096;
 
-const USAGE: &str = "usage: herringiron [FILE]\nRuns the job file FILE, or the one on standard input, and prints its transcript.\n";
+const USAGE: &str =
+    "usage: herringiron [FILE]\nRuns the job file FILE, or the one on standard input, and prints its transcript.\n";
 
 fn read_some<R: Read>(heap: Global, source: &mut R) -> io::Result<Vec<u8>> {
     let mut bytes = Vec::new(heap);

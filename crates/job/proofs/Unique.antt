@@ -32,8 +32,8 @@ key l = getD l 0 0 * 256 + getD l 1 0
 
 abbrev format-of : List ℕ → Format
 format-of l =
-  cond (eqb (key l) 29952) Utf8 (cond (eqb (key l) 21760) LargeUtf8 (cond (eqb (key l) 31232) Binary (cond (eqb (key l) 23040) LargeBinary
-  (cond (eqb (key l) 30325) Utf8View (cond (eqb (key l) 30330) BinaryView (FixedSizeBinary (folded with-digit 0 (drop 2 l))))))))
+    cond (eqb (key l) 29952) Utf8 (cond (eqb (key l) 21760) LargeUtf8 (cond (eqb (key l) 31232) Binary (cond (eqb (key l) 23040) LargeBinary
+    (cond (eqb (key l) 30325) Utf8View (cond (eqb (key l) 30330) BinaryView (FixedSizeBinary (folded with-digit 0 (drop 2 l))))))))
 
 format-back : (x : Format) → Lawful x → format-of (letters x) ≡ x
 format-back Utf8 h = refl
@@ -177,7 +177,7 @@ unread-measured : (cs : List Column-record) (x : Record) (u : unit.Unit) (a c : 
 unread-measured cs x u a c k rs n z m r = z k rs (subst (λ (i : ℕ). Read cs i k rs) (sym (measures-names x u a c m n)) r)
 
 many-few : (cs : List Column-record) (x : Record) (u v : unit.Unit) (a c : ℕ) (j k : OffsetFormat) (rs qs : List Given-row) → Measures x u a → Measures x v c
-  → Read cs a j rs → Read cs c k qs → 4096 < length rs → length qs ≤ 4096 → ⊥
+    → Read cs a j rs → Read cs c k qs → 4096 < length rs → length qs ≤ 4096 → ⊥
 many-few cs x u v a c j k rs qs m n r s l h =
     let e = measures-same x u v a c m n .1 in
     let w = read-same cs c j k rs qs (subst (λ (i : ℕ). Read cs i j rs) e r) s .1 in
@@ -220,9 +220,10 @@ step-same s t u a b (column x f part r rs c k h p q o) (column y g other r′ qs
     let e = stands-same x y r r′ h h′ in
     let w = columns-same x y f g part other p p′ (e .0) in
     let v : rs ≡ qs = laid-same (subst (λ (l : List ℕ). Laid l rs) (w .1) q) q′ in
-    let z : c ≡ d = answer-same g qs c d (subst (λ (m : Format). Column-answer m qs c) (w .0) (subst (λ (l : List Given-row). Column-answer f l c) v o)) o′ in
-    (ap answer-line z,
-     λ i. record { columns = s .columns ++ record { format = w .0 i; part = w .1 i } ∷ []; operations = s .operations; rest = e .1 i })
+    let z : c ≡ d = answer-same g qs c d (subst (λ (m : Format). Column-answer m qs c) (w .0) (subst (λ (l : List Given-row). Column-answer f l c) v o)) o′ in (
+      ap answer-line z,
+      λ i. record { columns = s .columns ++ record { format = w .0 i; part = w .1 i } ∷ []; operations = s .operations; rest = e .1 i },
+    )
 step-same s t u a b (column x f part r rs c k h p q o) (operation y r′ out k′ h′ o′) =
     absurd (columns-plain x y f part p (operation-plain (s .columns) (s .operations + 1) y out o′) (stands-same x y r r′ h h′ .0))
 step-same s t u a b (operation x r out k h o) (too-long m) = absurd (omega arith)
@@ -231,9 +232,10 @@ step-same s t u a b (operation x r out k h o) (column y g other r′ qs d k′ h
     absurd (columns-plain y x g other p′ (operation-plain (s .columns) (s .operations + 1) x out o) (stands-same y x r′ r h′ h .0))
 step-same s t u a b (operation x r out k h o) (operation y r′ out′ k′ h′ o′) =
     let e = stands-same x y r r′ h h′ in
-    let w = plain-same x y (operation-plain (s .columns) (s .operations + 1) x out o) (operation-plain (s .columns) (s .operations + 1) y out′ o′) (e .0) in
-    (operation-same (s .columns) (s .operations + 1) y out out′ (subst (λ (z : Record). Operation (s .columns) (s .operations + 1) z out) w o) o′,
-     λ i. record { columns = s .columns; operations = s .operations + 1; rest = e .1 i })
+    let w = plain-same x y (operation-plain (s .columns) (s .operations + 1) x out o) (operation-plain (s .columns) (s .operations + 1) y out′ o′) (e .0) in (
+      operation-same (s .columns) (s .operations + 1) y out out′ (subst (λ (z : Record). Operation (s .columns) (s .operations + 1) z out) w o) o′,
+      λ i. record { columns = s .columns; operations = s .operations + 1; rest = e .1 i },
+    )
 
 step-goes : (s t : State) (a : List ℕ) → Step s a t → 0 < length (s .rest)
 step-goes s t a (too-long l) = omega arith

@@ -27,7 +27,8 @@ returns c =
     let after = string-bytes (c .step .last .out) in
     record {
       value = at-end start s t before after (c .loop-job .inv) (subst (Stepped s t before after) (c .if-branch .left) (c .in-Continue-step .ensures tt));
-      only = one-transcript }
+      only = one-transcript;
+    }
 
 pub returns-in-Break-step : need.returns-in-Break-step
 returns-in-Break-step c = record { value = made-from-err (c .from-residual .result) _ (c .from-residual .ensures .0); only = one-transcript }
