@@ -1,5 +1,6 @@
 pub mod Answering
 pub mod Finding
+pub mod Failing
 pub mod FromRows
 pub mod Gathering
 pub mod Growing

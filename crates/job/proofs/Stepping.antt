@@ -15,10 +15,11 @@ use Rattle.records.specs.declared.record.Record.{Record}
 use Rattle.records.specs.declared.record.Record.the-variants.{Column, Cut, CutByCharacter, Join, Length, BitLength}
 use Rattle.records.proofs.Records.{stands-same, stands-shorter}
 use Rattle.job.specs.Lines.{refusal-line}
+use Rattle.job.specs.Printed.{Operate-printed}
 use Rattle.job.specs.States.{record-of}
 use Rattle.job.specs.Steps.{Stopped, Took, refused, taken, Made, Stepped}
 use Rattle.job.specs.Taken.{Taken, Not-listed}
-use Rattle.job.specs.Transcript.{State, ended, Step, too-long, bad, column, operation, Listed, Operation, Runs, done, more, Transcript}
+use Rattle.job.specs.Transcript.{Column-record, State, ended, Step, too-long, bad, column, operation, Listed, Operation, Runs, done, more, Transcript}
 
 -- a step that ends the job
 ended-by : (k : ℕ) (s t : State) (before after : List ℕ) (b : Bool) → Stopped k s t before after b → 0 < length (s .rest) → Step s (refusal-line k) (ended s) → Stepped s t before after b
@@ -78,6 +79,16 @@ took-stepped s t x f p rest before after b l k e h g w =
 pub operated : (s : State) (x : Record) (rest before after added : List ℕ) → length (s .rest) ≤ 65536 → Stands (s .rest) x rest → after ≡ before ++ added
     → Operation (s .columns) (s .operations + 1) x added → Made s (record { columns = s .columns; operations = s .operations + 1; rest = rest }) before after
 operated s x rest before after added k h q o = record { added = added; printed = q; stepped = operation x rest added k h o; shorter = stands-shorter x h }
+
+-- what an operation that is no column record added
+pub operate-added : (cs : List Column-record) (n : ℕ) (x : Record) (before after : List ℕ) → ((f p : RefT (List ℕ)) → x ≡ Column f p → ⊥) → Operate-printed cs n x before after
+    → (added : List ℕ) × (after ≡ before ++ added) × Operation cs n x added
+operate-added cs n (Column f p) before after h o = absurd (h f p refl)
+operate-added cs n (Cut k s l) before after h o = o
+operate-added cs n (CutByCharacter k s l) before after h o = o
+operate-added cs n (Join j k) before after h o = o
+operate-added cs n (Length k) before after h o = o
+operate-added cs n (BitLength k) before after h o = o
 
 -- the rows part of a column record is no longer than the file
 pub part-small : (file rest : List ℕ) (x : Record) (f p : RefT (List ℕ)) → x ≡ Column f p → Stands file x rest → length (now p) ≤ length file

@@ -5,16 +5,15 @@ ghost use Prim.Native.Nat.{ℕ};
 ghost use Rattle.std.specs.Of.String.{string-bytes};
 ghost use Rattle.std.specs.Of.Vec.{vec-items};
 ghost use Rattle.std.specs.Orderings.{When};
+ghost use Rattle.std.specs.Results.{Cases};
 ghost use Rattle.std.specs.Vec.{made};
 ghost use Rattle.std.specs.shelf.Lists.{joined};
-ghost use denote.Ref.{RefT};
-ghost use Rattle.records.specs.declared.record.Record.the-variants.{Column as ColumnOf};
 ghost use Rattle.job.specs.declared.fault.JobFault.the-variants.{Memory as NoMemory};
 ghost use Rattle.job.specs.Faults.{number as fault-number};
 ghost use Rattle.job.specs.Lines.{line, number-line};
-ghost use Rattle.job.specs.Printed.{Is-read, Measure-printed, Lacking-printed};
+ghost use Rattle.job.specs.Printed.{Is-read, Measure-printed, Lacking-printed, Operate-printed};
 ghost use Rattle.job.specs.States.{records-of};
-ghost use Rattle.job.specs.Transcript.{Not-read, Operation};
+ghost use Rattle.job.specs.Transcript.{Not-read};
 use crate::entry::Entry;
 use crate::entry::measure_column;
 use crate::fault::JobFault;
@@ -57,7 +56,7 @@ fn put_lengths(heap: Global, out: &mut String, n: u64, lengths: &Lengths) -> Res
 
 // Adds an operation's line with the fault's number. Want of memory is passed on.
 fn put_fault(heap: Global, out: &mut String, n: u64, fault: JobFault) -> Result<(), JobFault>
-    ensures { λ r. ⌜ made r (λ _. (fault ≡ NoMemory → ⊥) × (string-bytes (now (out .exit)) ≡ string-bytes (now (out .entry)) ++ line n (fault-number fault) 0 0 0)) ⌝ }
+    ensures { λ r. ⌜ Cases r (λ _. (fault ≡ NoMemory → ⊥) × (string-bytes (now (out .exit)) ≡ string-bytes (now (out .entry)) ++ line n (fault-number fault) 0 0 0)) (λ e. e ≡ NoMemory) ⌝ }
 {
     if let JobFault::Memory = fault {
         return Err(JobFault::Memory);
@@ -75,8 +74,8 @@ fn print_lengths(
     unit: Unit,
     out: &mut String,
 ) -> Result<(), JobFault>
-    ensures { λ r. ⌜ made r (λ _. (added : List ℕ) × (string-bytes (now (out .exit)) ≡ string-bytes (now (out .entry)) ++ added)
-        × Measure-printed (records-of (now (columns .entry))) n unit column added) ⌝ }
+    ensures { λ r. ⌜ Cases r (λ _. (added : List ℕ) × (string-bytes (now (out .exit)) ≡ string-bytes (now (out .entry)) ++ added)
+        × Measure-printed (records-of (now (columns .entry))) n unit column added) (λ e. e ≡ NoMemory) ⌝ }
 {
     match measure_column(heap, columns, column, unit) {
         Ok(lengths) => {
@@ -89,7 +88,7 @@ fn print_lengths(
 
 // Whether a column is read.
 fn is_read(heap: Global, columns: &[Entry<'_>], column: u16) -> Result<bool, JobFault>
-    ensures { λ r. ⌜ made r (λ b. When b (Is-read (records-of (now (columns .entry))) column) (Not-read (records-of (now (columns .entry))) column)) ⌝ }
+    ensures { λ r. ⌜ Cases r (λ b. When b (Is-read (records-of (now (columns .entry))) column) (Not-read (records-of (now (columns .entry))) column)) (λ e. e ≡ NoMemory) ⌝ }
 {
     match measure_column(heap, columns, column, Unit::Bytes) {
         Ok(_) => Ok(true),
@@ -106,8 +105,8 @@ fn print_lacking(
     right: u16,
     out: &mut String,
 ) -> Result<(), JobFault>
-    ensures { λ r. ⌜ made r (λ _. (added : List ℕ) × (string-bytes (now (out .exit)) ≡ string-bytes (now (out .entry)) ++ added)
-        × Lacking-printed (records-of (now (columns .entry))) n left right added) ⌝ }
+    ensures { λ r. ⌜ Cases r (λ _. (added : List ℕ) × (string-bytes (now (out .exit)) ≡ string-bytes (now (out .entry)) ++ added)
+        × Lacking-printed (records-of (now (columns .entry))) n left right added) (λ e. e ≡ NoMemory) ⌝ }
 {
     let first = is_read(heap, columns, left)?;
     let second = is_read(heap, columns, right)?;
@@ -129,8 +128,7 @@ pub fn operate(
     found: Record<'_>,
     out: &mut String,
 ) -> Result<(), JobFault>
-    ensures { λ r. ⌜ made r (λ _. ((f p : RefT (List ℕ)) → found .entry ≡ ColumnOf f p → ⊥) → (added : List ℕ)
-        × (string-bytes (now (out .exit)) ≡ string-bytes (now (out .entry)) ++ added) × Operation (records-of (now (columns .entry))) n (found .entry) added) ⌝ }
+    ensures { λ r. ⌜ Cases r (λ _. Operate-printed (records-of (now (columns .entry))) n (found .entry) (string-bytes (now (out .entry))) (string-bytes (now (out .exit)))) (λ e. e ≡ NoMemory) ⌝ }
 {
     match found {
         Record::Column { .. } => Ok(()),

@@ -5,7 +5,8 @@ ghost use mathlib.Core.List.{[]};
 ghost use Prim.Native.Nat.{_≤_};
 ghost use lib.ListN.{length as size};
 ghost use Rattle.std.specs.Of.String.{string-bytes};
-ghost use Rattle.std.specs.Vec.{made};
+ghost use Rattle.std.specs.Results.{Cases};
+ghost use Rattle.job.specs.declared.fault.JobFault.the-variants.{Memory as NoMemory};
 ghost use Rattle.job.specs.Faults.{number as fault-number};
 ghost use Rattle.job.specs.Steps.{state-of, Stopped, Took, Stepped};
 ghost use Rattle.job.specs.Transcript.{Transcript, One-transcript};
@@ -44,7 +45,7 @@ impl<'a> Job<'a> {
 
     // Prints a refusal that ends the job.
     fn stop(&mut self, fault: JobFault, out: &mut String) -> Result<bool, JobFault>
-        ensures { λ r. ⌜ made r (λ more. Stopped (fault-number fault) (state-of (now (self .entry))) (state-of (now (self .exit))) (string-bytes (now (out .entry))) (string-bytes (now (out .exit))) more) ⌝ }
+        ensures { λ r. ⌜ Cases r (λ more. Stopped (fault-number fault) (state-of (now (self .entry))) (state-of (now (self .exit))) (string-bytes (now (out .entry))) (string-bytes (now (out .exit))) more) (λ e. e ≡ NoMemory) ⌝ }
     {
         put_refusal(self.heap, out, fault.number())?;
         self.rest = &[];
@@ -60,8 +61,8 @@ impl<'a> Job<'a> {
         out: &mut String,
     ) -> Result<bool, JobFault>
         requires { ⌜ size (now part) ≤ 65536 ⌝ }
-        ensures { λ r. ⌜ made r (λ more. (more ≡ true) × Took (state-of (now (self .entry))) (state-of (now (self .exit))) (now (letters .entry)) (now (part .entry)) (now (after .entry))
-            (string-bytes (now (out .entry))) (string-bytes (now (out .exit)))) ⌝ }
+        ensures { λ r. ⌜ Cases r (λ more. (more ≡ true) × Took (state-of (now (self .entry))) (state-of (now (self .exit))) (now (letters .entry)) (now (part .entry)) (now (after .entry))
+            (string-bytes (now (out .entry))) (string-bytes (now (out .exit)))) (λ e. e ≡ NoMemory) ⌝ }
     {
         let Some(entry) = take_column(self.heap, letters, part, out)? else {
             return self.stop(JobFault::Record, out);
@@ -72,9 +73,9 @@ impl<'a> Job<'a> {
     }
 
     /// One step: takes the next record and adds what it prints. Answers false, with nothing changed, where nothing is left
-    /// of the file.
+    /// of the file. The only error is want of memory.
     pub fn step(&mut self, out: &mut String) -> Result<bool, JobFault>
-        ensures { λ r. ⌜ made r (λ more. Stepped (state-of (now (self .entry))) (state-of (now (self .exit))) (string-bytes (now (out .entry))) (string-bytes (now (out .exit))) more) ⌝ }
+        ensures { λ r. ⌜ Cases r (λ more. Stepped (state-of (now (self .entry))) (state-of (now (self .exit))) (string-bytes (now (out .entry))) (string-bytes (now (out .exit))) more) (λ e. e ≡ NoMemory) ⌝ }
     {
         if self.rest.len() == 0 {
             return Ok(false);
@@ -98,9 +99,9 @@ impl<'a> Job<'a> {
     }
 }
 
-/// The transcript of a whole job file. A file has no two.
+/// The transcript of a whole job file; a file has no two. The only error is want of memory.
 pub fn run(heap: Global, file: &[u8]) -> Result<String, JobFault>
-    ensures value { λ r. ⌜ made r (λ s. Transcript (now (file .entry)) (string-bytes s)) ⌝ }
+    ensures value { λ r. ⌜ Cases r (λ s. Transcript (now (file .entry)) (string-bytes s)) (λ e. e ≡ NoMemory) ⌝ }
     ensures only { λ _. ⌜ One-transcript ⌝ }
 {
     let mut out = String::new(heap);

@@ -5,7 +5,8 @@ ghost use Prim.Native.Nat.{ℕ, _≤_};
 ghost use lib.ListN.{length as size};
 ghost use Rattle.std.specs.Of.String.{string-bytes};
 ghost use Rattle.std.specs.Options.{Cases as BySome};
-ghost use Rattle.std.specs.Vec.{made};
+ghost use Rattle.std.specs.Results.{Cases};
+ghost use Rattle.job.specs.declared.fault.JobFault.the-variants.{Memory as NoMemory};
 ghost use Rattle.records.specs.Layout.{Given-row, Laid};
 ghost use Rattle.job.specs.Taken.{Checked, in-column, numbered, answered-line, Taken, Not-listed};
 ghost use Rattle.job.specs.Transcript.{Column-answer};
@@ -30,8 +31,8 @@ fn check_part(
     part: &[u8],
 ) -> Result<Option<Option<ColumnFault>>, JobFault>
     requires { ⌜ size (now part) ≤ 65536 ⌝ }
-    ensures { λ r. ⌜ made r (λ o. BySome o ((rs : List Given-row) → Laid (now (part .entry)) rs → ⊥)
-        (λ a. (rs : List Given-row) × Laid (now (part .entry)) rs × Checked (format .text) rs a)) ⌝ }
+    ensures { λ r. ⌜ Cases r (λ o. BySome o ((rs : List Given-row) → Laid (now (part .entry)) rs → ⊥)
+        (λ a. (rs : List Given-row) × Laid (now (part .entry)) rs × Checked (format .text) rs a)) (λ e. e ≡ NoMemory) ⌝ }
 {
     match measure_part(heap, format, part, Unit::Bytes) {
         Ok(_) => Ok(Some(None)),
@@ -41,7 +42,7 @@ fn check_part(
 
 // Prints the number of a fault where there is one.
 fn put_answer(heap: Global, out: &mut String, answer: Option<JobFault>) -> Result<(), JobFault>
-    ensures { λ r. ⌜ made r (λ _. string-bytes (now (out .exit)) ≡ string-bytes (now (out .entry)) ++ answered-line answer) ⌝ }
+    ensures { λ r. ⌜ Cases r (λ _. string-bytes (now (out .exit)) ≡ string-bytes (now (out .entry)) ++ answered-line answer) (λ e. e ≡ NoMemory) ⌝ }
 {
     if let Some(fault) = answer {
         put_refusal(heap, out, fault.number())?;
@@ -62,8 +63,8 @@ fn in_column(fault: Option<ColumnFault>) -> Option<JobFault>
 // The fault that a column record of this format and rows meets, or nothing where its rows are not laid out.
 fn meet(heap: Global, format: Format, part: &[u8]) -> Result<Option<Option<JobFault>>, JobFault>
     requires { ⌜ size (now part) ≤ 65536 ⌝ }
-    ensures { λ r. ⌜ made r (λ o. BySome o ((rs : List Given-row) → Laid (now (part .entry)) rs → ⊥)
-        (λ a. (rs : List Given-row) × Laid (now (part .entry)) rs × Column-answer format rs (numbered a))) ⌝ }
+    ensures { λ r. ⌜ Cases r (λ o. BySome o ((rs : List Given-row) → Laid (now (part .entry)) rs → ⊥)
+        (λ a. (rs : List Given-row) × Laid (now (part .entry)) rs × Column-answer format rs (numbered a))) (λ e. e ≡ NoMemory) ⌝ }
 {
     let Some(known) = built(format) else {
         let plain = OffsetFormat {
@@ -90,8 +91,8 @@ pub(crate) fn take_column<'a>(
     out: &mut String,
 ) -> Result<Option<Entry<'a>>, JobFault>
     requires { ⌜ size (now part) ≤ 65536 ⌝ }
-    ensures { λ r. ⌜ made r (λ o. BySome o (Not-listed (now (letters .entry)) (now (part .entry)) × (string-bytes (now (out .exit)) ≡ string-bytes (now (out .entry))))
-        (λ e. Taken (now (letters .entry)) (now (part .entry)) e (string-bytes (now (out .entry))) (string-bytes (now (out .exit))))) ⌝ }
+    ensures { λ r. ⌜ Cases r (λ o. BySome o (Not-listed (now (letters .entry)) (now (part .entry)) × (string-bytes (now (out .exit)) ≡ string-bytes (now (out .entry))))
+        (λ e. Taken (now (letters .entry)) (now (part .entry)) e (string-bytes (now (out .entry))) (string-bytes (now (out .exit))))) (λ e. e ≡ NoMemory) ⌝ }
 {
     let Some(format) = read_format(letters) else {
         return Ok(None);

@@ -1,6 +1,6 @@
 use mathlib.Core.Path.{_≡_, refl, subst, sym, _∙_, ap}
 use mathlib.Core.Logic.{inl, inr}
-use Rattle.std.proofs.shelf.Results.{made-weaker}
+use Rattle.job.proofs.Failing.{made-weaker}
 use Rattle.std.proofs.shelf.Ways.{when-true, when-false}
 use Rattle.job.specs.Printed.{unread, lacking}
 use Rattle.job.specs.States.{records-of}

@@ -1,5 +1,5 @@
 use mathlib.Core.Path.{_≡_, refl, subst, sym, _∙_, ap}
-use Rattle.std.proofs.shelf.Results.{made-weaker}
+use Rattle.job.proofs.Failing.{made-weaker}
 use Rattle.job.specs.States.{records-of}
 use Rattle.job.proofs.Printing.{measure-granted, measure-refused}
 use Rattle.job.proofs.operate.print_lengths.Needs as need

@@ -5,7 +5,7 @@ use Rattle.std.specs.Of.String.{string-bytes}
 use Rattle.job.specs.Steps.{state-of, Stepped}
 use Rattle.job.specs.Transcript.{State}
 use Rattle.job.proofs.Stepping.{one-step, at-end}
-use Rattle.std.proofs.shelf.Results.{made-from-err}
+use Rattle.job.proofs.Failing.{passed-on}
 use Rattle.job.proofs.Unique.{one-transcript}
 use Rattle.job.proofs.run.run.Needs as need
 
@@ -31,4 +31,7 @@ returns c =
     }
 
 pub returns-in-Break-step : need.returns-in-Break-step
-returns-in-Break-step c = record { value = made-from-err (c .from-residual .result) _ (c .from-residual .ensures .0); only = one-transcript }
+returns-in-Break-step c = record {
+  value = passed-on (c .from-residual .result) _ _ (c .from-residual .ensures .1) (c .in-Break-step .ensures tt);
+  only = one-transcript;
+}

@@ -2,7 +2,7 @@ use mathlib.Core.Path.{_≡_, refl, subst, sym, _∙_, ap}
 use native.Mathlib.Omega.{arith}
 use Rattle.std.specs.Of.String.{string-bytes}
 use Rattle.std.proofs.shelf.Lists.{nil-from-length}
-use Rattle.std.proofs.shelf.Results.{made-weaker}
+use Rattle.job.proofs.Failing.{made-weaker}
 use mathlib.Core.List.{List}
 use Prim.Native.Nat.{ℕ, _+_}
 use Rattle.std.specs.Of.Vec.{vec-items}
@@ -10,7 +10,7 @@ use Rattle.job.specs.declared.entry.Entry.{Entry}
 use Rattle.job.specs.States.{records-of}
 use Rattle.job.specs.Steps.{state-of, Made}
 use Rattle.job.specs.Transcript.{Operation}
-use Rattle.job.proofs.Stepping.{stop-long, stop-bad, took-stepped, operated, part-small}
+use Rattle.job.proofs.Stepping.{stop-long, stop-bad, took-stepped, operated, operate-added, part-small}
 use Rattle.job.proofs.run.Job.step.Needs as need
 
 pub returns-then-self-eq0 : need.returns-then-self-eq0
@@ -48,7 +48,7 @@ returns c =
     let s = state-of (c .args .self .now) in
     let n : c .in-Some .n ≡ c .args .self .now .operations + 1 = c .in-Some .ensures tt .1 in
     let cs = records-of (vec-items (c .args .self .now .columns)) in
-    let h = c .in-Continue-operate .ensures tt (c .in-rest-found .not-Column) in
+    let h = operate-added _ (c .in-Some .n) (c .in-Ok .found) (string-bytes (c .args .out .now)) (string-bytes (c .operate .last .out)) (c .in-rest-found .not-Column) (c .in-Continue-operate .ensures tt) in
     let o : Operation cs (c .args .self .now .operations + 1) (c .in-Ok .found) (h .0) =
     subst (λ (k : ℕ). Operation cs k (c .in-Ok .found) (h .0)) n
     (subst (λ (es : List Entry). Operation (records-of es) (c .in-Some .n) (c .in-Ok .found) (h .0)) (c .as-slice .ensures .value) (h .2)) in
