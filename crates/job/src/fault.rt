@@ -108,7 +108,7 @@ impl JobFault {
     }
 
     /// Whether the column that a measure met is read: it is where only its rows are too many. Any other fault stays one.
-    pub fn is_read(self) -> Result<bool, JobFault>
+    pub(crate) fn is_read(self) -> Result<bool, JobFault>
         ensures { λ r. ⌜ r ≡ read-answer self ⌝ }
     {
         match self {
@@ -122,7 +122,7 @@ impl JobFault {
     }
 
     /// What a measure says of making its column: nothing where the rows are not laid out, else the fault or none.
-    pub fn in_making(self) -> Result<Option<Option<ColumnFault>>, JobFault>
+    pub(crate) fn in_making(self) -> Result<Option<Option<ColumnFault>>, JobFault>
         ensures { λ r. ⌜ r ≡ making-answer self ⌝ }
     {
         match self {
@@ -136,7 +136,7 @@ impl JobFault {
     }
 
     /// The fault as a later operation meets it: a column that could not be made counts as not read.
-    pub fn unread(self) -> JobFault
+    pub(crate) fn unread(self) -> JobFault
         ensures { λ r. ⌜ r ≡ unread-of self ⌝ }
     {
         match self {

@@ -32,7 +32,7 @@ pub struct Lengths {
 }
 
 /// How many rows of a source are null.
-pub fn count_nulls<S: Source>(source: &S) -> usize
+pub(crate) fn count_nulls<S: Source>(source: &S) -> usize
     ensures { λ r. ⌜ r ≡ null-rows (S·Source .meaning (now (source .entry)) .rows) ⌝ }
 {
     let mut n = 0;

@@ -8,7 +8,7 @@ use std::alloc::AllocError;
 use std::alloc::Global;
 
 /// Adds an operation's line: its number, the refusal or 0, and three numbers. Example: `1 0 2 1 0`.
-pub fn put_line(
+pub(crate) fn put_line(
     heap: Global,
     out: &mut String,
     n: u64,
@@ -24,7 +24,7 @@ pub fn put_line(
 }
 
 /// Adds a refusal that belongs to no operation. Example: `17 0 0 0`.
-pub fn put_refusal(heap: Global, out: &mut String, refusal: u64) -> Result<(), AllocError>
+pub(crate) fn put_refusal(heap: Global, out: &mut String, refusal: u64) -> Result<(), AllocError>
     ensures { λ r. ⌜ made r (λ _. string-bytes (now (out .exit)) ≡ string-bytes (now (out .entry)) ++ refusal-line refusal) ⌝ }
 {
     let zero: u64 = 0;
@@ -33,7 +33,7 @@ pub fn put_refusal(heap: Global, out: &mut String, refusal: u64) -> Result<(), A
 }
 
 /// Adds a length on a line of its own. Example: `-2147483648`.
-pub fn put_number(heap: Global, out: &mut String, n: i64) -> Result<(), AllocError>
+pub(crate) fn put_number(heap: Global, out: &mut String, n: i64) -> Result<(), AllocError>
     ensures { λ r. ⌜ made r (λ _. string-bytes (now (out .exit)) ≡ string-bytes (now (out .entry)) ++ number-line n) ⌝ }
 {
     let text = format!(heap, "{n}\n")?;
