@@ -90,7 +90,7 @@ pub impl Offset for i64 as I64Offset {
     }
 
     fn to_u64(self) -> Option<u64> {
-        if self < 0 { None } else { Some(self as u64) }
+        if self >= 0 { Some(self as u64) } else { None }
     }
 
     fn lend(list: &[i64]) -> Offsets<'_> {
