@@ -8,7 +8,7 @@ returns-then-i-offsets g c =
     let number = g.O.Offset.number in
     let e = at_number number c.args.offsets.now c.args.i c.index-offsets-i.result c.if-i-offsets.true c.index-offsets-i.is in
     let l = subst (λ (n : ℕ). c.args.i < n) (sym (length-map c.args.offsets.now number)) c.if-i-offsets.true in
-    weaker c.to-u64.result c.to-u64.ensures (λ h _ n q. not_natural _ _ n e h q) (λ n h. (l, e ∙ h.0, h.1))
+    weaker c.to_u64.result c.to_u64.ensures (λ h _ n q. not_natural _ _ n e h q) (λ n h. (l, e ∙ h.0, h.1))
 
 pub returns-else-i-offsets : goal.returns-else-i-offsets
 returns-else-i-offsets g c = λ h n q. omega (arith, h, length-map c.args.offsets.now g.O.Offset.number, c.if-i-offsets.false)

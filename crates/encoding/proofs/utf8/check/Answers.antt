@@ -9,18 +9,18 @@ use Rattle.encoding.proofs.utf8.check.Goals as goal
 pub loop-rest-init : goal.loop-rest-init
 loop-rest-init c = (omega arith, refl, (0, none))
 
-pub overflow-add-place : goal.overflow-add-place
-overflow-add-place c = omega (arith, c.in-Some.ensures.0.0, c.loop-rest.invariant.0)
+pub overflow_add-place : goal.overflow_add-place
+overflow_add-place c = omega (arith, c.in-Some.ensures.0.0, c.loop-rest.invariant.0)
 
-pub returns-in-default : goal.returns-in-default
-returns-in-default c =
+pub returns-in_default : goal.returns-in_default
+returns-in_default c =
     let s : List ℕ = c.args.s.now in
     let p = c.loop-rest.place in
     let i = c.loop-rest.invariant in
     let u : Unreadable s p = record {
       inside = omega (arith, i.0, c.loop-rest-test.true);
       before = i.2;
-      stops = λ n f. c.in-default.ensures n (subst (λ (l : List ℕ). Front l n) (sym i.1) f);
+      stops = λ n f. c.in_default.ensures n (subst (λ (l : List ℕ). Front l n) (sym i.1) f);
     } in
     record { answer = (u, unreadable_no_text s p u); law = rfc3629 }
 

@@ -7,11 +7,11 @@ use Rattle.encoding.proofs.utf8.place.Goals as goal
 pub loop-init : goal.loop-init
 loop-init c = (refl, (omega arith, none))
 
-pub overflow-add-p : goal.overflow-add-p
-overflow-add-p c =
+pub overflow_add-p : goal.overflow_add-p
+overflow_add-p c =
     let f = c.in-Some.ensures in
     let i = c.loop.invariant in
-    omega (arith, f.0.0, i.1.0, ap length i.0, length-drop c.loop.p c.args.s.now, c.well-formed)
+    omega (arith, f.0.0, i.1.0, ap length i.0, length-drop c.loop.p c.args.s.now, c.well_formed)
 
 pub loop-preserved : goal.loop-preserved
 loop-preserved c =
@@ -21,12 +21,12 @@ loop-preserved c =
       reaches_more _ _ _ _ _ i.1 i.0 f.0,
     )
 
-pub returns-in-default : goal.returns-in-default
-returns-in-default c =
+pub returns-in_default : goal.returns-in_default
+returns-in_default c =
     let s : List ℕ = c.args.s.now in
     let i = c.loop.invariant in
     let h = reaches_none s c.loop.counter c.args.k c.loop.p i.1 c.loop-test.true
-    (λ n f. c.in-default.ensures n (subst (λ (l : List ℕ). Front l n) (sym i.0) f)) in
+    (λ n f. c.in_default.ensures n (subst (λ (l : List ℕ). Front l n) (sym i.0) f)) in
     record { reads = h; text = λ n t. not_reached s n c.args.k t h }
 
 pub returns : goal.returns

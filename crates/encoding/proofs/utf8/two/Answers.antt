@@ -5,5 +5,5 @@ use Rattle.encoding.proofs.utf8.two.Goals as goal
 
 pub returns : goal.returns
 returns c =
-    Decides-like _ (λ p. two_from (sym c.char-size.ensures ∙ p.0) p.1) (λ h. let k = two_to h in (c.char-size.ensures ∙ k.0, k.1))
+    Decides-like _ (λ p. two_from (sym c.char_size.ensures ∙ p.0) p.1) (λ h. let k = two_to h in (c.char_size.ensures ∙ k.0, k.1))
     (Decides-and _ _ (Decides-eqb _ 2) c.tail.ensures)

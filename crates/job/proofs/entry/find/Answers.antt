@@ -9,9 +9,9 @@ pub returns-then-part-gt65536 : goal.returns-then-part-gt65536
 returns-then-part-gt65536 c = λ f part h.
     omega (arith, (has_only c.args.columns.now c.args.column f part c.if-k-columns.false h).0, c.if-part-gt65536.true)
 
-pub returns-in-default : goal.returns-in-default
-returns-in-default c = λ f part h.
-    c.in-default.not-Some f (c.built.ensures ∙ (has_only c.args.columns.now c.args.column f part c.if-k-columns.false h).1)
+pub returns-in_default : goal.returns-in_default
+returns-in_default c = λ f part h.
+    c.in_default.not-Some f (c.built.ensures ∙ (has_only c.args.columns.now c.args.column f part c.if-k-columns.false h).1)
 
 pub returns : goal.returns
 returns c =

@@ -6,7 +6,7 @@ use Rattle.job.proofs.gather.add_row.Goals as goal
 pub returns : goal.returns
 returns g c =
     lays_push g.O.Offset.number c.args.g.now
-    (record { rows = c.args.g.now.rows + 1; offsets = c.push.new.self; «data» = c.extend-from-slice.new.self; validity = c.add-bit.new.validity })
-    c.to-offset.result c.args.valid c.args.bytes.now refl
-    c.in-ok-push.ensures.items (c.to-offset.ensures ∙ ap pos c.len.ensures) c.in-ok-extend-from-slice.ensures.items
-    c.in-ok-add-bit.ensures
+    (record { rows = c.args.g.now.rows + 1; offsets = c.push.new.self; «data» = c.extend_from_slice.new.self; validity = c.add_bit.new.validity })
+    c.to_offset.result c.args.valid c.args.bytes.now refl
+    c.in_ok-push.ensures.items (c.to_offset.ensures ∙ ap pos c.len.ensures) c.in_ok-extend_from_slice.ensures.items
+    c.in_ok-add_bit.ensures

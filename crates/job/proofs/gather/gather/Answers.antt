@@ -8,18 +8,18 @@ loop-rest-init g c = (
   [],
   taken_none g.O.Offset.number c.args.part.now
       (record { rows = 0; offsets = c.push.new.self; «data» = c.new-2.result; validity = c.new-3.result })
-      c.to-offset.result refl
-      (c.in-ok-push.ensures.items ∙ ap (λ l. l ++ c.to-offset.result ∷ []) c.new.ensures.items)
-      c.to-offset.ensures c.new-2.ensures.items,
+      c.to_offset.result refl
+      (c.in_ok-push.ensures.items ∙ ap (λ l. l ++ c.to_offset.result ∷ []) c.new.ensures.items)
+      c.to_offset.ensures c.new-2.ensures.items,
 )
 
-pub returns-in-default : goal.returns-in-default
-returns-in-default g c =
+pub returns-in_default : goal.returns-in_default
+returns-in_default g c =
     taken_never g.O.Offset.number c.args.part.now c.loop-rest.rest.now c.loop-rest.g c.loop-rest.invariant.0 c.loop-rest.invariant.1
-    (omega arith) c.in-default.ensures.reads
+    (omega arith) c.in_default.ensures.reads
 
-pub add-row-requires : goal.add-row-requires
-add-row-requires g c =
+pub add_row-requires : goal.add_row-requires
+add_row-requires g c =
     let k = c.loop-rest.invariant.1 in
     let r = row_fits c.in-Some.valid c.in-Some.bytes.now c.in-Some.after.now c.in-Some.ensures.reads in
     let room = k.room in
@@ -36,8 +36,8 @@ loop-rest-preserved g c =
     let v = c.in-Some.valid in
     let s = c.in-Some.bytes.now in (
       rs ++ record { valid = v; bytes = s } ∷ [],
-      taken_more g.O.Offset.number c.args.part.now c.loop-rest.rest.now c.in-Some.after.now c.loop-rest.g c.add-row.new.g v s rs k
-          c.in-Some.ensures.reads (c.in-ok-add-row.ensures rs k.lays),
+      taken_more g.O.Offset.number c.args.part.now c.loop-rest.rest.now c.in-Some.after.now c.loop-rest.g c.add_row.new.g v s rs k
+          c.in-Some.ensures.reads (c.in_ok-add_row.ensures rs k.lays),
     )
 
 pub returns : goal.returns

@@ -7,8 +7,8 @@ use Rattle.job.specs.Measured.{null_rows}
 use Rattle.job.proofs.lengths.count_nulls.Goals.{then-not-row, else-not-row}
 use Rattle.job.proofs.lengths.count_nulls.Goals as goal
 
-pub returns-in-default : goal.returns-in-default
-returns-in-default g c = absurd (omega (arith, c.in-default.ensures, c.loop-i-test.true, c.count-i-end.ensures.value))
+pub returns-in_default : goal.returns-in_default
+returns-in_default g c = absurd (omega (arith, c.in_default.ensures, c.loop-i-test.true, c.count-i-end.ensures.value))
 
 pub loop-i-preserved : goal.loop-i-preserved
 loop-i-preserved g c =

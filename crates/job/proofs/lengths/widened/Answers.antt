@@ -8,15 +8,15 @@ one_more : (after before list : List ℤ) (i : ℕ) (x : ℤ) → before ≡ tak
 one_more after before list i x b e h q =
     e ∙ ap (λ (zs : List ℤ). zs ++ x ∷ []) b ∙ ap (λ (z : ℤ). take i list ++ z ∷ []) q ∙ sym (take_more list i (pos 0) h)
 
-pub returns-in-err-push : goal.returns-in-err-push
-returns-in-err-push c = IfOk-from_err c.from-residual.result _ c.from-residual.ensures.0
+pub returns-in_err-push : goal.returns-in_err-push
+returns-in_err-push c = IfOk-from_err c.from-residual.result _ c.from-residual.ensures.0
 
 pub loop-x-preserved : goal.loop-x-preserved
 loop-x-preserved c =
     let list : List ℤ = c.args.list.now in
     let i = c.loop-x.x-index in
     let f : SFits w32 (get_or list i (pos 0)) = search rules in
-    one_more (vec_items c.push.new.self) (vec_items c.loop-x.v) list i _ c.loop-x.invariant c.in-ok-push.ensures.items c.loop-x-test.true (omega (arith, ints))
+    one_more (vec_items c.push.new.self) (vec_items c.loop-x.v) list i _ c.loop-x.invariant c.in_ok-push.ensures.items c.loop-x-test.true (omega (arith, ints))
 
 pub returns : goal.returns
 returns c = c.loop-x.invariant ∙ take_all c.loop-x.x-index c.args.list.now c.loop-x-test.false

@@ -7,7 +7,7 @@ use Rattle.job.proofs.operate.put_lengths.Goals as goal
 
 pub returns : goal.returns
 returns c =
-    IfOk-weaker c.put-numbers.result _ _
-    (λ _ h. added_after (string_bytes c.args.out.now) (string_bytes c.put-line.new.out) _ _ _ c.in-ok-put-line.ensures
-    (h ∙ ap (λ (zs : List ℤ). string_bytes c.put-line.new.out ++ flat_map number_line zs) c.as-slice.ensures.value))
-    c.put-numbers.ensures
+    IfOk-weaker c.put_numbers.result _ _
+    (λ _ h. added_after (string_bytes c.args.out.now) (string_bytes c.put_line.new.out) _ _ _ c.in_ok-put_line.ensures
+    (h ∙ ap (λ (zs : List ℤ). string_bytes c.put_line.new.out ++ flat_map number_line zs) c.as_slice.ensures.value))
+    c.put_numbers.ensures

@@ -16,8 +16,8 @@ loop-n-preserved c =
     let ns : List ℤ = c.args.numbers.now in
     let i = c.loop-n.n-index in
     let f : SFits w64 (get_or ns i (pos 0)) = search rules in
-    one_more (string_bytes c.args.out.now) (string_bytes c.loop-n.out) (string_bytes c.put-number.new.out) ns i _ c.loop-n.invariant
-    c.in-ok-put-number.ensures c.loop-n-test.true (omega (arith, ints))
+    one_more (string_bytes c.args.out.now) (string_bytes c.loop-n.out) (string_bytes c.put_number.new.out) ns i _ c.loop-n.invariant
+    c.in_ok-put_number.ensures c.loop-n-test.true (omega (arith, ints))
 
 pub returns : goal.returns
 returns c =

@@ -13,7 +13,7 @@ loop-job-preserved c =
     let t = state_of c.step.new.self in
     let before = string_bytes c.loop-job.out in
     let after = string_bytes c.step.new.out in
-    one_step start s t before after c.loop-job.invariant (subst (Stepped s t before after) c.if-branch.true c.in-ok-step.ensures)
+    one_step start s t before after c.loop-job.invariant (subst (Stepped s t before after) c.if-branch.true c.in_ok-step.ensures)
 
 pub returns : goal.returns
 returns c =
@@ -23,12 +23,12 @@ returns c =
     let before = string_bytes c.loop-job.out in
     let after = string_bytes c.step.new.out in
     record {
-      value = at_end start s t before after c.loop-job.invariant (subst (Stepped s t before after) c.if-branch.false c.in-ok-step.ensures);
+      value = at_end start s t before after c.loop-job.invariant (subst (Stepped s t before after) c.if-branch.false c.in_ok-step.ensures);
       only = one_transcript;
     }
 
-pub returns-in-err-step : goal.returns-in-err-step
-returns-in-err-step c = record {
-  value = passed_on c.from-residual.result _ _ c.from-residual.ensures.1 c.in-err-step.ensures;
+pub returns-in_err-step : goal.returns-in_err-step
+returns-in_err-step c = record {
+  value = passed_on c.from-residual.result _ _ c.from-residual.ensures.1 c.in_err-step.ensures;
   only = one_transcript;
 }

@@ -18,8 +18,8 @@ returns-then-rows-out g c =
       kept = λ _. refl;
     }
 
-pub returns-in-default : goal.returns-in-default
-returns-in-default g c = absurd (omega (arith, c.in-default.ensures, c.loop-i-test.true, c.len-rows.ensures))
+pub returns-in_default : goal.returns-in_default
+returns-in_default g c = absurd (omega (arith, c.in_default.ensures, c.loop-i-test.true, c.len-rows.ensures))
 
 pub loop-i-preserved : goal.loop-i-preserved
 loop-i-preserved g c =
@@ -29,10 +29,10 @@ loop-i-preserved g c =
     let i = c.loop-i.i in
     let s = map g.O.Offset.number c.args.out.now in
     let m = c.in-Some.ensures in
-    let w = c.in-width-number.ensures in
+    let w = c.in_width-number.ensures in
     let v = c.loop-i.invariant in
     let fits = w.1 ∙ ap (λ (n : ℕ). leb (in_unit u n) k) m.1 in (
-      one_more (λ (n : ℕ). wrapped k (in_unit u n)) g.O.Offset.number ls s c.loop-i.out i c.in-width-number.result.0 v.0 m.0
+      one_more (λ (n : ℕ). wrapped k (in_unit u n)) g.O.Offset.number ls s c.loop-i.out i c.in_width-number.result.0 v.0 m.0
           (omega (arith, length-map c.args.out.now g.O.Offset.number, c.if-rows-out.false, c.len-rows.ensures))
           (w.0 ∙ ap (λ (n : ℕ). wrapped k (in_unit u n)) m.1),
       elim c.if-not-fits.branch [

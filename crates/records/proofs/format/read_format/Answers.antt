@@ -6,21 +6,21 @@ use Rattle.records.proofs.format.read_format.Goals.{In-w-eq58}
 prefixed : (c : In-w-eq58) → c.args.f.now ≡ 119 ∷ 58 ∷ take (length c.args.f.now - 2) (drop 2 c.args.f.now)
 prefixed c = fixed c.args.f.now (omega (arith, ltb-true, ltb-false)) c.in-w-eq58.is-0 c.in-w-eq58.is-1
 
-pub returns-in-err-width : goal.returns-in-err-width
-returns-in-err-width c =
+pub returns-in_err-width : goal.returns-in_err-width
+returns-in_err-width c =
     let f : List ℕ = c.args.f.now in
     rw c.from-residual.ensures
     (λ x h e.
-    fixed_none (take (length f - 2) (drop 2 f)) c.in-err-width.ensures x h
-    (sym (prefixed (goal.at.returns-in-err-width c).In-w-eq58) ∙ e))
+    fixed_none (take (length f - 2) (drop 2 f)) c.in_err-width.ensures x h
+    (sym (prefixed (goal.at.returns-in_err-width c).In-w-eq58) ∙ e))
 
 pub returns-in-len1 : goal.returns-in-len1
-returns-in-len1 c = subst (λ (f : List ℕ). Answer f c.one-letter.result) (sym (single c.args.f.now (search rules))) c.one-letter.ensures
+returns-in-len1 c = subst (λ (f : List ℕ). Answer f c.one_letter.result) (sym (single c.args.f.now (search rules))) c.one_letter.ensures
 
 pub returns-in-len2 : goal.returns-in-len2
-returns-in-len2 c = subst (λ (f : List ℕ). Answer f c.two-letters.result) (sym (pair c.args.f.now (search rules))) c.two-letters.ensures
+returns-in-len2 c = subst (λ (f : List ℕ). Answer f c.two_letters.result) (sym (pair c.args.f.now (search rules))) c.two_letters.ensures
 
-pub returns-in-ok-width : goal.returns-in-ok-width
-returns-in-ok-width c =
-    let e = c.in-ok-width.ensures in
-    (e.0, prefixed (goal.at.returns-in-ok-width c).In-w-eq58 ∙ ap (λ (ds : List ℕ). 119 ∷ 58 ∷ ds) e.1)
+pub returns-in_ok-width : goal.returns-in_ok-width
+returns-in_ok-width c =
+    let e = c.in_ok-width.ensures in
+    (e.0, prefixed (goal.at.returns-in_ok-width c).In-w-eq58 ∙ ap (λ (ds : List ℕ). 119 ∷ 58 ∷ ds) e.1)

@@ -11,10 +11,10 @@ returns-then-ds-eq0 c = λ w h e. let s = width_length _ w h e in elim c.then-ds
 pub returns-then-ds-gt1 : goal.returns-then-ds-gt1
 returns-then-ds-gt1 c = λ w h e. width_first c.args.ds.now w h e c.if-ds-eq48.true c.if-ds-gt1.true
 
-pub returns-in-err-d : goal.returns-in-err-d
-returns-in-err-d c =
+pub returns-in_err-d : goal.returns-in_err-d
+returns-in_err-d c =
     rw c.from-residual.ensures
-    (λ w h e. c.in-err-d.ensures (width_digit c.args.ds.now w c.loop-b.b-index h e c.loop-b-test.true))
+    (λ w h e. c.in_err-d.ensures (width_digit c.args.ds.now w c.loop-b.b-index h e c.loop-b-test.true))
 
 -- what is read so far has at most ten digits
 small : (c : In-ok-d) → c.loop-b.w < 10000000000
@@ -22,17 +22,17 @@ small c =
     let f = front_small c.args.ds.now c.loop-b.b-index (omega arith) (omega arith) c.loop-b.invariant.1 in
     omega (arith, f, c.loop-b.invariant.0)
 
-pub overflow-mul-w : goal.overflow-mul-w
-overflow-mul-w c = omega (arith, small c)
+pub overflow_mul-w : goal.overflow_mul-w
+overflow_mul-w c = omega (arith, small c)
 
-pub overflow-add-w : goal.overflow-add-w
-overflow-add-w c = omega (arith, small (goal.at.overflow-add-w c).In-ok-d, c.in-ok-d.ensures)
+pub overflow_add-w : goal.overflow_add-w
+overflow_add-w c = omega (arith, small (goal.at.overflow_add-w c).In-ok-d, c.in_ok-d.ensures)
 
 pub loop-b-preserved : goal.loop-b-preserved
 loop-b-preserved c =
     let i = c.loop-b.b-index in
     let s : List ℕ = c.args.ds.now in
-    let d = c.in-ok-d.ensures in (
+    let d = c.in_ok-d.ensures in (
       (ap (λ (k : ℕ). c.loop-b.w * 10 + k) d.1 ∙ ap (λ (w : ℕ). with_digit w (get_or s i 0)) c.loop-b.invariant.0) ∙ sym (fold_more with_digit 0 s i 0 c.loop-b-test.true),
       below_more _ _ c.loop-b.invariant.1 d.0,
     )

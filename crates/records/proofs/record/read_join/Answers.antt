@@ -1,9 +1,9 @@
 use Rattle.records.proofs.Bodies.{join_rightless}
 use Rattle.records.proofs.record.read_join.Goals as goal
 
-pub returns-in-err-left : goal.returns-in-err-left
-returns-in-err-left c = rw c.from-residual.ensures (λ x y h. c.in-err-left.ensures x h.0 h.1)
+pub returns-in_err-left : goal.returns-in_err-left
+returns-in_err-left c = rw c.from-residual.ensures (λ x y h. c.in_err-left.ensures x h.0 h.1)
 
-pub returns-in-err-right : goal.returns-in-err-right
-returns-in-err-right c =
-    rw c.from-residual-in-err-right.ensures (join_rightless c.in-ok-left.ensures c.in-err-right.ensures)
+pub returns-in_err-right : goal.returns-in_err-right
+returns-in_err-right c =
+    rw c.from-residual-in_err-right.ensures (join_rightless c.in_ok-left.ensures c.in_err-right.ensures)

@@ -8,7 +8,7 @@ pub returns : goal.returns
 returns c =
     let l = lists_of c.args.self.now in
     record {
-      value = c.is-wide.ensures;
+      value = c.is_wide.ensures;
       low = λ i h.
           omega (arith, length_in l i (omega (arith, count_lengths l, h)), length_bytes_shown l.offsets l.content i);
     }

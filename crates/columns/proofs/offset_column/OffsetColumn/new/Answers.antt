@@ -5,23 +5,23 @@ use Rattle.columns.specs.Lists.{Lists, Shaped}
 use Rattle.columns.specs.OffsetColumn.{Made, Refused}
 use Rattle.columns.proofs.Making.{shaped_from, refused_text, texts_shown, granted}
 use Rattle.columns.proofs.offset_column.OffsetColumn.new.Goals as goal
-use Rattle.columns.proofs.offset_column.OffsetColumn.new.Goals.{then-text+in-ok-check-texts, else-text}
+use Rattle.columns.proofs.offset_column.OffsetColumn.new.Goals.{then-text+in_ok-check_texts, else-text}
 
-pub returns-in-err-check-texts : goal.returns-in-err-check-texts
-returns-in-err-check-texts c =
+pub returns-in_err-check_texts : goal.returns-in_err-check_texts
+returns-in_err-check_texts c =
     let l : Lists = record { text = c.args.text; rows = c.args.rows; offsets = c.args.offsets; content = c.args.data.now; validity = c.args.validity } in
-    let p = err_from_is_err_and c.from-residual-in-err-check-texts.result c.from-residual-in-err-check-texts.ensures.1 in
+    let p = err_from_is_err_and c.from-residual-in_err-check_texts.result c.from-residual-in_err-check_texts.ensures.1 in
     rw (p.1, p.2)
-    (refused_text l c.in-err-check-texts.field-0.0 (shaped_from l (c.if-not-shaped.ensures.0 refl)) c.in-ok-check.ensures
-    c.if-text.true c.in-err-check-texts.ensures)
+    (refused_text l c.in_err-check_texts.field-0.0 (shaped_from l (c.if-not-shaped.ensures.0 refl)) c.in_ok-check.ensures
+    c.if-text.true c.in_err-check_texts.ensures)
 
 pub returns : goal.returns
 returns c =
     let l : Lists = record { text = c.args.text; rows = c.args.rows; offsets = c.args.offsets; content = c.args.data.now; validity = c.args.validity } in
     let s = shaped_from l (c.if-not-shaped.ensures.0 refl) in
-    let o = c.in-ok-check.ensures in
+    let o = c.in_ok-check.ensures in
     granted l _ refl s o
     (elim c.if-text.branch [
-      | then-text+in-ok-check-texts w ↦ texts_shown l s o w.in-ok-check-texts.ensures
+      | then-text+in_ok-check_texts w ↦ texts_shown l s o w.in_ok-check_texts.ensures
       | else-text w ↦ λ e. absurd (both_ways c.args.text w.if-text.false e)
     ])

@@ -10,4 +10,4 @@ returns-in-Err c = (
 )
 
 pub loop-i-preserved : goal.loop-i-preserved
-loop-i-preserved c = below_more _ _ c.loop-i.invariant (subst Text c.part.ensures.1 c.in-default.ensures.answer)
+loop-i-preserved c = below_more _ _ c.loop-i.invariant (subst Text c.part.ensures.1 c.in_default.ensures.answer)

@@ -17,11 +17,11 @@ returns-then-self-gt65536 c =
     (λ b h. stop_long (state_of c.args.self.now) _ (string_bytes c.args.out.now) _ b c.if-self-gt65536.true h)
     c.stop.ensures
 
-pub returns-in-default : goal.returns-in-default
-returns-in-default c =
-    made_weaker c.stop-in-default.result _ _
-    (λ b h. stop_bad (state_of c.args.self.now) _ (string_bytes c.args.out.now) _ b (omega arith) c.if-self-gt65536.false c.in-default.ensures.reads h)
-    c.stop-in-default.ensures
+pub returns-in_default : goal.returns-in_default
+returns-in_default c =
+    made_weaker c.stop-in_default.result _ _
+    (λ b h. stop_bad (state_of c.args.self.now) _ (string_bytes c.args.out.now) _ b (omega arith) c.if-self-gt65536.false c.in_default.ensures.reads h)
+    c.stop-in_default.ensures
 
 pub take-requires : goal.take-requires
 take-requires c =
@@ -43,9 +43,9 @@ returns c =
     let s = state_of c.args.self.now in
     let n : c.in-Some.n ≡ c.args.self.now.operations + 1 = c.in-Some.ensures.1 in
     let cs = records_of (vec_items c.args.self.now.columns) in
-    let h = operate_added _ c.in-Some.n c.in-Ok.found (string_bytes c.args.out.now) (string_bytes c.operate.new.out) c.in-default-found.not-Column c.in-ok-operate.ensures in
+    let h = operate_added _ c.in-Some.n c.in-Ok.found (string_bytes c.args.out.now) (string_bytes c.operate.new.out) c.in_default-found.not-Column c.in_ok-operate.ensures in
     let o : Operation cs (c.args.self.now.operations + 1) c.in-Ok.found h.0 =
     subst (λ (k : ℕ). Operation cs k c.in-Ok.found h.0) n
-    (subst (λ (es : List Entry). Operation (records_of es) c.in-Some.n c.in-Ok.found h.0) c.as-slice.ensures.value h.2) in
+    (subst (λ (es : List Entry). Operation (records_of es) c.in-Some.n c.in-Ok.found h.0) c.as_slice.ensures.value h.2) in
     subst (λ (k : ℕ). Made s (record { columns = cs; operations = k; rest = c.in-Ok.after.now }) (string_bytes c.args.out.now) (string_bytes c.operate.new.out)) (sym n)
     (operated s c.in-Ok.found c.in-Ok.after.now (string_bytes c.args.out.now) (string_bytes c.operate.new.out) h.0 c.if-self-gt65536.false c.in-Ok.ensures.reads h.1 o)

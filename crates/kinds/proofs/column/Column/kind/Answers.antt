@@ -8,7 +8,7 @@ use Rattle.kinds.proofs.column.Column.kind.Goals as goal
 pub returns-in-Offset : goal.returns-in-Offset
 returns-in-Offset c =
     let l = lists_of c.in-Offset.c in
-    c.offset-kind.ensures
-    ∙ ap (λ (t : Bool). offset_kind t c.is-wide.result) (c.is-text.ensures ∙ shown_text l)
-    ∙ ap (offset_kind l.text) c.is-wide.ensures.value
+    c.offset_kind.ensures
+    ∙ ap (λ (t : Bool). offset_kind t c.is_wide.result) (c.is_text.ensures ∙ shown_text l)
+    ∙ ap (offset_kind l.text) c.is_wide.ensures.value
     ∙ sym (ap kind_of c.in-Offset.is)

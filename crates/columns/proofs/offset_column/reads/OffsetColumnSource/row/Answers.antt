@@ -11,7 +11,7 @@ pub returns : goal.returns
 returns c =
     let l = lists_of c.args.self.now in
     let h : c.args.i < count_shown l = omega (arith, c.if-i-min.false, c.min.ensures) in
-    let b = c.as-marked.ensures ∙ ap (readable l.text) c.part-base.ensures.1 in (
+    let b = c.as_marked.ensures ∙ ap (readable l.text) c.part-base.ensures.1 in (
       omega (arith, count_rows l, h),
       λ d. row_in l c.args.i d h ∙ (λ j. record { valid = sym c.valid.ensures j; bytes = sym b j; base = sym c.part-base.ensures.0 j }),
     )
