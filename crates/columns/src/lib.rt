@@ -1,4 +1,6 @@
 // What is read: rows, sources of rows, and columns over lent lists.
+#![tactic(auto)]
+
 pub mod fault;
 pub mod measure;
 pub mod offset_column;

@@ -1,10 +1,9 @@
 -- Boundaries of text are the places where characters begin.
-use Rattle.std.proofs.Common.{◌≡◌, ℕ, zero, suc, ◌+◌, ◌-◌, ◌<◌, ◌≤◌, ◌⊎◌, List, [], ◌∷◌, ◌++◌, length, get_or, take, drop, sym, refl, ap, ◌∙◌, subst, inl, inr, append_assoc, append-nil, arith}
+use Rattle.std.proofs.Common.{◌≡◌, ℕ, zero, suc, ◌+◌, ◌-◌, ◌<◌, ◌≤◌, List, [], ◌∷◌, ◌++◌, length, get_or, sym, refl, ap, ◌∙◌, subst, inl, inr, append_assoc, arith}
 use Rattle.std.proofs.lemmas.List.{get_or_append_left, get_or-append_right, length-append}
-use Rattle.std.proofs.lemmas.Bool.Decides.{nat_tests}
 use Rattle.std.proofs.lemmas.Bool.{cases_lt}
-use Rattle.encoding.specs.Utf8.{Char, utf8_1, utf8_2, utf8_3a, utf8_3b, utf8_3c, utf8_3d, utf8_4a, utf8_4b, utf8_4c, Chars, none, more, Text, Begins, Boundary, Boundaries, Tail, Second, size_of}
-use Rattle.encoding.proofs.Chars.{char_size, two_to, three_to, four_to}
+use Rattle.encoding.specs.Utf8.{Char, utf8_1, utf8_2, utf8_3a, utf8_3b, utf8_3c, utf8_3d, utf8_4a, utf8_4b, utf8_4c, Chars, none, more, Begins, Boundary, Boundaries, Tail}
+use Rattle.encoding.proofs.Chars.{char_size}
 
 tails2 : (a b i : ℕ) → Tail b → 0 < i → i < 2 → Tail (get_or (a ∷ b ∷ []) i 0)
 tails2 x0 x1 zero t h k = absurd (omega arith)

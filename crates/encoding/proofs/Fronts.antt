@@ -1,6 +1,5 @@
 -- The character at the front of a list.
-use Rattle.std.proofs.Common.{◌≡◌, ℕ, zero, suc, ◌-◌, ◌<◌, ◌≤◌, Bool, true, false, ◌⊎◌, List, [], ◌∷◌, ◌++◌, length, get_or, take, drop, sym, refl, subst, inl, inr, arith, length-take}
-use Rattle.std.proofs.lemmas.Bool.{cases_order, cases_lt}
+use Rattle.std.proofs.Common.{ℕ, zero, suc, ◌≤◌, List, [], ◌∷◌, length, get_or, arith, length-take}
 use Rattle.encoding.specs.Utf8.{Char, Front}
 use Rattle.encoding.proofs.Chars.{char_size}
 

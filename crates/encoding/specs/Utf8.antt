@@ -1,5 +1,5 @@
 -- Text after the grammar of RFC 3629.
-use Rattle.std.specs.Prelude.{◌≡◌, ℕ, suc, ◌+◌, ◌<◌, ◌≤◌, Bool, cond, not, ◌&&◌, ◌⊎◌, List, [], ◌∷◌, ◌++◌, length, take, drop, count_by, ◌==◌, nat_le, nat_lt, slice_index}
+use Rattle.std.specs.Prelude.{◌≡◌, ℕ, suc, ◌<◌, ◌≤◌, Bool, cond, not, ◌&&◌, ◌⊎◌, List, [], ◌∷◌, ◌++◌, length, take, drop, count_by, ◌==◌, nat_le, nat_lt, slice_index}
 
 -- b lies in lo..hi
 abbrev pub In : ℕ → ℕ → ℕ → Type 0

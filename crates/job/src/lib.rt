@@ -1,4 +1,6 @@
 // Jobs: a file of records run and written out.
+#![tactic(auto)]
+
 pub mod column;
 pub mod entry;
 pub mod fault;

@@ -1,2 +1,4 @@
 // The kernels, generic over what is read and what is written.
+#![tactic(auto)]
+
 pub mod length;

@@ -1,4 +1,6 @@
 // The calls by kind: columns of all thirteen kinds under one type.
+#![tactic(auto)]
+
 pub mod column;
 pub mod fault;
 pub mod kind;

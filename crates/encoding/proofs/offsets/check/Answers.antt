@@ -1,4 +1,4 @@
-use Rattle.std.proofs.Common.{◌≡◌, ℕ, ◌+◌, ◌<◌, List, map, length, ℤ, sym, refl, ap, ◌∙◌, subst, add-one, arith, below_more}
+use Rattle.std.proofs.Common.{◌≡◌, ℕ, ◌<◌, map, sym, ap, ◌∙◌, subst, add-one, arith, below_more}
 use Rattle.std.proofs.lemmas.List.{length-map}
 use Rattle.encoding.specs.Offsets.{before, Right, at, FirstWrong}
 use Rattle.encoding.proofs.Widths.{at_number, wrong_negative, wrong_falling, wrong_beyond, right_step, below_ceiling}

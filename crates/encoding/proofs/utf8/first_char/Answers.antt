@@ -1,7 +1,7 @@
-use Rattle.std.proofs.Common.{◌<◌, ◌≤◌, length, get_or, take, drop, refl, arith, ltb-false, ltb-true}
+use Rattle.std.proofs.Common.{◌≤◌, length, refl, arith, ltb-false, ltb-true}
 use Rattle.std.proofs.lemmas.List.{take_rest}
 use Rattle.std.proofs.lemmas.Bool.Decides.{not_from_Decides}
-use Rattle.encoding.proofs.Fronts.{found1, found2, found3, found4, not_found, None1, None2, None3, None4}
+use Rattle.encoding.proofs.Fronts.{found1, found2, found3, found4, not_found}
 use Rattle.encoding.proofs.utf8.first_char.Goals as goal
 use Rattle.encoding.proofs.utf8.first_char.Goals.{in_default-via-then-s-lt1, in_default-via-in-len1-up+else-one+then-s-lt2, in_default-via-in-len2-up+else-two+then-s-lt3, in_default-via-in-len3-up+else-three+then-s-lt4, in_default-via-in-len4-up+else-four}
 

@@ -1,4 +1,4 @@
-use Rattle.std.proofs.Common.{refl, inl, inr, arith, rules}
+use Rattle.std.proofs.Common.{refl, inl, inr, arith}
 use Rattle.std.proofs.lemmas.Bool.Decides.{nat_tests as tests, Decides-not, Decides-like}
 use Rattle.encoding.proofs.Edges.{boundaries}
 use Rattle.encoding.proofs.utf8.is_boundary.Goals as goal

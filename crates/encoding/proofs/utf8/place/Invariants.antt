@@ -1,4 +1,4 @@
-use Rattle.std.proofs.Common.{◌≡◌, ◌≤◌, drop}
+use Rattle.std.proofs.Common.{◌≡◌, drop}
 use Rattle.encoding.specs.Utf8.{Reaches}
 use Rattle.encoding.proofs.utf8.place.Given as goal
 

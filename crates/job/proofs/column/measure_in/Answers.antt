@@ -35,7 +35,7 @@ over g c =
 pub returns-in_err-column : goal.returns-in_err-column
 returns-in_err-column g c =
     let a = (goal.at.returns-in_err-column g c).After-new in
-    let p = err_from_is_err_and c.from-residual-in_err-column.result c.from-residual-in_err-column.ensures.1 in
+    let p = err_from_is_err_and c.from_residual-in_err-column.result c.from_residual-in_err-column.ensures.1 in
     let h = made_over (lists g a) (rows g a).0 (Err c.in_err-column.field-0.0) (over g a) c.in_err-column.ensures in
     rw (p.1, p.2) ((rows g a).0, (rows g a).1, h.0, h.1, h.2)
 

@@ -19,7 +19,7 @@ returns-in_err-wrapped c =
     let w = wide_of l.offsets in
     let ns = c.args.narrow.now in
     let ws = c.args.wide.now in
-    let p = err_from_is_err_and c.from-residual.result c.from-residual.ensures.1 in
+    let p = err_from_is_err_and c.from_residual.result c.from_residual.ensures.1 in
     let h = refused_is u w (lengths_shown l) ns ws _ (room_is w ns ws c.requires.places.0 c.requires.places.1) c.in_err-wrapped.ensures.answer in
     rw (p.1, p.2) (subst (λ (f : KindFault). MeasuredAs u l (Err (Kind f))) (sym h.0) h.1)
 
@@ -36,7 +36,7 @@ numbers_of-requires c =
 
 pub returns-in_err-numbers : goal.returns-in_err-numbers
 returns-in_err-numbers c =
-    let p = err_from_is_err_and c.from-residual-in_err-numbers.result c.from-residual-in_err-numbers.ensures.1 in
+    let p = err_from_is_err_and c.from_residual-in_err-numbers.result c.from_residual-in_err-numbers.ensures.1 in
     rw (p.1, p.2) tt
 
 pub returns : goal.returns

@@ -9,7 +9,7 @@ one_more after before list i x b e h q =
     e ∙ ap (λ (zs : List ℤ). zs ++ x ∷ []) b ∙ ap (λ (z : ℤ). take i list ++ z ∷ []) q ∙ sym (take_more list i (pos 0) h)
 
 pub returns-in_err-push : goal.returns-in_err-push
-returns-in_err-push c = IfOk-from_err c.from-residual.result _ c.from-residual.ensures.0
+returns-in_err-push c = IfOk-from_err c.from_residual.result _ c.from_residual.ensures.0
 
 pub loop-x-preserved : goal.loop-x-preserved
 loop-x-preserved c =

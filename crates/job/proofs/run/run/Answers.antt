@@ -29,6 +29,6 @@ returns c =
 
 pub returns-in_err-step : goal.returns-in_err-step
 returns-in_err-step c = record {
-  value = passed_on c.from-residual.result _ _ c.from-residual.ensures.1 c.in_err-step.ensures;
+  value = passed_on c.from_residual.result _ _ c.from_residual.ensures.1 c.in_err-step.ensures;
   only = one_transcript;
 }

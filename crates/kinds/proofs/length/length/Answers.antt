@@ -6,7 +6,7 @@ use Rattle.kinds.proofs.length.length.Goals as goal
 
 pub returns-in_err-measure : goal.returns-in_err-measure
 returns-in_err-measure c =
-    let p = err_from_is_err_and c.from-residual.result c.from-residual.ensures.1 in
+    let p = err_from_is_err_and c.from_residual.result c.from_residual.ensures.1 in
     let m = measured c.args.column.now in
     let h = c.in_err-measure.ensures in
     record {

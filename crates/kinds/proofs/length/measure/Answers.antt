@@ -27,7 +27,7 @@ low_all c = low_is (measured c.args.column.now) (of c) (lists_of c.in-Offset.c).
 pub returns-in_err-over : goal.returns-in_err-over
 returns-in_err-over c =
     let a = (goal.at.returns-in_err-over c).After-choose in
-    let p = err_from_is_err_and c.from-residual.result c.from-residual.ensures.1 in
+    let p = err_from_is_err_and c.from_residual.result c.from_residual.ensures.1 in
     let k = answered_err c.args.unit (ceiling (of a).wide) (of a).lengths (room (of a).wide c.args.narrow.now c.args.wide.now) _ c.in_err-over.ensures.answer in
     record {
       answer = p.1 ∙ ap Err (p.2 ∙ ap Length k.0) ∙ answer_err (over_of c.args.unit) (measured c.args.column.now) (of a) c.args.narrow.now c.args.wide.now (is a) k.1;

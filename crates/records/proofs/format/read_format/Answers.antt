@@ -9,7 +9,7 @@ prefixed c = fixed c.args.f.now (omega (arith, ltb-true, ltb-false)) c.in-w-eq58
 pub returns-in_err-width : goal.returns-in_err-width
 returns-in_err-width c =
     let f : List ℕ = c.args.f.now in
-    rw c.from-residual.ensures
+    rw c.from_residual.ensures
     (λ x h e.
     fixed_none (take (length f - 2) (drop 2 f)) c.in_err-width.ensures x h
     (sym (prefixed (goal.at.returns-in_err-width c).In-w-eq58) ∙ e))

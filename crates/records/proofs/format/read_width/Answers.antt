@@ -13,7 +13,7 @@ returns-then-ds-gt1 c = λ w h e. width_first c.args.ds.now w h e c.if-ds-eq48.t
 
 pub returns-in_err-d : goal.returns-in_err-d
 returns-in_err-d c =
-    rw c.from-residual.ensures
+    rw c.from_residual.ensures
     (λ w h e. c.in_err-d.ensures (width_digit c.args.ds.now w c.loop-b.b-index h e c.loop-b-test.true))
 
 -- what is read so far has at most ten digits

@@ -3,7 +3,7 @@ use Rattle.records.proofs.record.read_column.Goals as goal
 
 pub returns-in_err-format : goal.returns-in_err-format
 returns-in_err-format c =
-    rw c.from-residual-in_err-format.ensures
+    rw c.from_residual-in_err-format.ensures
     (column_short c.args.body.now c.in_ok-size.rest.now c.in_ok-size.size.now
     c.in_ok-size.ensures.cases.0 c.in_err-format.ensures.cases)
 

@@ -3,16 +3,16 @@ use Rattle.records.proofs.rows.next_row.Goals as goal
 
 pub returns-in_err-valid : goal.returns-in_err-valid
 returns-in_err-valid c =
-    rw c.from-residual.ensures (record { reads = λ v s rest h. c.in_err-valid.ensures v h.0 h.1; shorter = tt })
+    rw c.from_residual.ensures (record { reads = λ v s rest h. c.in_err-valid.ensures v h.0 h.1; shorter = tt })
 
 pub returns-in_err-size : goal.returns-in_err-size
 returns-in_err-size c =
-    rw c.from-residual-in_err-size.ensures
+    rw c.from_residual-in_err-size.ensures
     (record { reads = row_sizeless c.in_ok-valid.ensures c.in_err-size.ensures; shorter = tt })
 
 pub returns-in_err-bytes : goal.returns-in_err-bytes
 returns-in_err-bytes c =
-    rw c.from-residual-in_err-bytes.ensures
+    rw c.from_residual-in_err-bytes.ensures
     (record { reads = row_short c.in_ok-valid.ensures c.in_ok-size.ensures c.in_err-bytes.ensures.cases; shorter = tt })
 
 pub returns : goal.returns

@@ -13,7 +13,7 @@ check-requires c = ap length c.part.ensures ∙ length_view c.args.views.now c.l
 pub returns-in-err-check : goal.returns-in-err-check
 returns-in-err-check c =
     let right : ℕ → Type 0 = λ i. Right c.args.buffers.data.now c.args.buffers.ends.now (view_at c.args.views.now i) in
-    let p = err_from_is_err_and c.from-residual.result c.from-residual.ensures.1 in
+    let p = err_from_is_err_and c.from_residual.result c.from_residual.ensures.1 in
     rw (p.1, p.2)
     (first_wrong_at right c.args.rows c.loop-i.i c.in-err-check.field-0.0 c.in-err-check.ensures.0 c.loop-i-test.true c.loop-i.invariant
     (λ r. c.in-err-check.ensures.1 (subst (Right c.args.buffers.data.now c.args.buffers.ends.now) (sym c.part.ensures) r)))

@@ -10,7 +10,7 @@ use Rattle.columns.proofs.offset_column.OffsetColumn.new.Goals.{then-text+in_ok-
 pub returns-in_err-check_texts : goal.returns-in_err-check_texts
 returns-in_err-check_texts c =
     let l : Lists = record { text = c.args.text; rows = c.args.rows; offsets = c.args.offsets; content = c.args.data.now; validity = c.args.validity } in
-    let p = err_from_is_err_and c.from-residual-in_err-check_texts.result c.from-residual-in_err-check_texts.ensures.1 in
+    let p = err_from_is_err_and c.from_residual-in_err-check_texts.result c.from_residual-in_err-check_texts.ensures.1 in
     rw (p.1, p.2)
     (refused_text l c.in_err-check_texts.field-0.0 (shaped_from l (c.if-not-shaped.ensures.0 refl)) c.in_ok-check.ensures
     c.if-text.true c.in_err-check_texts.ensures)

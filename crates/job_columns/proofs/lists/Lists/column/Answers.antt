@@ -25,32 +25,32 @@ up x y rs c e h = subst (λ (z : Format). Stands z rs c) (sym e) h
 pub returns-in-err-offset-column : goal.returns-in-err-offset-column
 returns-in-err-offset-column c = λ x rs h.
     let k = held x rs c.args.self.now _ c.in-Narrow.is h in
-    let p = err_from_is_err_and c.from-residual.result c.from-residual.ensures.1 in
+    let p = err_from_is_err_and c.from_residual.result c.from_residual.ensures.1 in
     let f = c.in-err-offset-column.field-0.0 in
-    down x _ rs c.from-residual.result f k.0 (p.1 ∙ ap Err p.2) (refused_text _ c.in-Narrow.text rs f (narrow_format c.in-Narrow.text).text_is (c.in-err-offset-column.ensures rs k.1 k.2))
+    down x _ rs c.from_residual.result f k.0 (p.1 ∙ ap Err p.2) (refused_text _ c.in-Narrow.text rs f (narrow_format c.in-Narrow.text).text_is (c.in-err-offset-column.ensures rs k.1 k.2))
 
 pub returns-in-err-offset-column-2 : goal.returns-in-err-offset-column-2
 returns-in-err-offset-column-2 c = λ x rs h.
     let k = held x rs c.args.self.now _ c.in-Wide.is h in
-    let p = err_from_is_err_and c.from-residual-in-err-offset-column-2.result c.from-residual-in-err-offset-column-2.ensures.1 in
+    let p = err_from_is_err_and c.from_residual-in-err-offset-column-2.result c.from_residual-in-err-offset-column-2.ensures.1 in
     let f = c.in-err-offset-column-2.field-0.0 in
-    down x _ rs c.from-residual-in-err-offset-column-2.result f k.0 (p.1 ∙ ap Err p.2)
+    down x _ rs c.from_residual-in-err-offset-column-2.result f k.0 (p.1 ∙ ap Err p.2)
     (refused_text _ c.in-Wide.text rs f (wide_format c.in-Wide.text).text_is (c.in-err-offset-column-2.ensures rs k.1 k.2))
 
 pub returns-in-err-fixed-column : goal.returns-in-err-fixed-column
 returns-in-err-fixed-column c = λ x rs h.
     let k = held x rs c.args.self.now _ c.in-Fixed.is h in
-    let p = err_from_is_err_and c.from-residual-in-err-fixed-column.result c.from-residual-in-err-fixed-column.ensures.1 in
+    let p = err_from_is_err_and c.from_residual-in-err-fixed-column.result c.from_residual-in-err-fixed-column.ensures.1 in
     let f = c.in-err-fixed-column.field-0.0 in
-    down x _ rs c.from-residual-in-err-fixed-column.result f k.0 (p.1 ∙ ap Err p.2)
+    down x _ rs c.from_residual-in-err-fixed-column.result f k.0 (p.1 ∙ ap Err p.2)
     (refused_width c.in-Fixed.width rs f (c.in-err-fixed-column.ensures rs k.1 k.2))
 
 pub returns-in-err-view-column : goal.returns-in-err-view-column
 returns-in-err-view-column c = λ x rs h.
     let k = held x rs c.args.self.now _ c.in-Views.is h in
-    let p = err_from_is_err_and c.from-residual-in-err-view-column.result c.from-residual-in-err-view-column.ensures.1 in
+    let p = err_from_is_err_and c.from_residual-in-err-view-column.result c.from_residual-in-err-view-column.ensures.1 in
     let f = c.in-err-view-column.field-0.0 in
-    down x _ rs c.from-residual-in-err-view-column.result f k.0 (p.1 ∙ ap Err p.2)
+    down x _ rs c.from_residual-in-err-view-column.result f k.0 (p.1 ∙ ap Err p.2)
     (refused_text _ c.in-Views.text rs f (view_text c.in-Views.text)
     (c.in-err-view-column.ensures rs k.1 k.2 (c.as-slice.ensures.value ∙ k.3) (c.as-slice-in-Views.ensures.value ∙ k.4)))
 

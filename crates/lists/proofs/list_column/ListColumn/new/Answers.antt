@@ -12,7 +12,7 @@ returns-then-offsets-rows g c = λ s. omega (arith, s.counted, length-map c.args
 pub returns-in-err-check : goal.returns-in-err-check
 returns-in-err-check g c =
     let l : Lists = record { rows = c.args.rows; numbers = map g.O.Offset.number c.args.offsets.now; ceiling = g.O.Offset.ceiling; validity = c.args.validity } in
-    let p = err_from_is_err_and c.from-residual.result c.from-residual.ensures.1 in
+    let p = err_from_is_err_and c.from_residual.result c.from_residual.ensures.1 in
     rw (p.1, p.2) (
       shaped_from l (c.if-not-rows-fit.ensures.0 refl) (length-map c.args.offsets.now g.O.Offset.number ∙ c.if-offsets-rows.false),
       subst (λ (e : ℕ). (k : ℕ) × FirstWrong l.numbers e k × (c.in-err-check.field-0.0.row ≡ k - 1)) c.max-value.ensures c.in-err-check.ensures,

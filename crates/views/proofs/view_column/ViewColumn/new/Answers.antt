@@ -15,13 +15,13 @@ check-views-requires c = let s = (c.shaped.ensures c.args.text).0 c.if-not-shape
 pub returns-in-err-check-views : goal.returns-in-err-check-views
 returns-in-err-check-views c =
     let l : Lists = record { text = c.args.text; rows = c.args.rows; views = c.args.views.now; content = c.args.buffers.data.now; ends = c.args.buffers.ends.now; validity = c.args.validity } in
-    let p = err_from_is_err_and c.from-residual.result c.from-residual.ensures.1 in
+    let p = err_from_is_err_and c.from_residual.result c.from_residual.ensures.1 in
     rw (p.1, p.2) (refused_view l c.in-err-check-views.field-0.0 ((c.shaped.ensures c.args.text).0 c.if-not-shaped.false) c.in-err-check-views.ensures)
 
 pub returns-in-err-check-texts : goal.returns-in-err-check-texts
 returns-in-err-check-texts c =
     let l : Lists = record { text = c.args.text; rows = c.args.rows; views = c.args.views.now; content = c.args.buffers.data.now; ends = c.args.buffers.ends.now; validity = c.args.validity } in
-    let p = err_from_is_err_and c.from-residual-in-err-check-texts.result c.from-residual-in-err-check-texts.ensures.1 in
+    let p = err_from_is_err_and c.from_residual-in-err-check-texts.result c.from_residual-in-err-check-texts.ensures.1 in
     rw (p.1, p.2)
     (refused_text l c.in-err-check-texts.field-0.0 ((c.shaped.ensures c.args.text).0 c.if-not-shaped.false) c.in-ok-check-views.ensures c.if-text.true
     c.in-err-check-texts.ensures)
