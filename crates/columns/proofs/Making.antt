@@ -1,12 +1,12 @@
 -- What making a column by offsets answers.
-use Rattle.std.proofs.Common.{◌≡◌, ℕ, ◌+◌, ◌<◌, ◌≤◌, true, List, length, sym, refl, ap, ◌∙◌, subst, arith}
+use Rattle.std.proofs.Common.{◌≡◌, ℕ, ◌+◌, ◌<◌, ◌≤◌, true, List, length, subst, arith}
 use Rattle.encoding.specs.Offsets.{numbers}
 use Rattle.encoding.specs.Utf8 as utf8
 use Rattle.encoding.specs.Utf8.{Unreadable}
 use Rattle.columns.specs.declared.fault.ColumnFault.{ColumnFault}
 use Rattle.columns.specs.declared.fault.ColumnFault.TheVariants.{Shape, Offset, View, Text}
 use Rattle.columns.specs.declared.offset_column.OffsetColumn.{OffsetColumn}
-use Rattle.columns.specs.Lists.{Lists, Shaped, Ordered, TextsTo, bytes_at, covers}
+use Rattle.columns.specs.Lists.{Lists, Shaped, Ordered, TextsTo, covers}
 use Rattle.columns.specs.OffsetColumn.{lists_of, FirstIllFormed, Granted, Refused}
 use Rattle.columns.specs.Shown.{bytes_shown}
 use Rattle.columns.proofs.Showing.{bytes_same, rows_shown, lengths_same}

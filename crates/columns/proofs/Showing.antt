@@ -1,8 +1,8 @@
 -- What a column shows, and that it is the meaning of lists that keep the rules.
-use Rattle.std.proofs.Common.{◌≡◌, ℕ, zero, suc, ◌+◌, ◌-◌, ◌<◌, ◌≤◌, min, Bool, true, false, cond, ◌⊎◌, List, [], ◌∷◌, ◌++◌, map, length, get_or, take, drop, ℤ, pos, negsuc, ◌≤ℤ◌, sym, refl, ap, ◌∙◌, subst, inl, inr, arith}
+use Rattle.std.proofs.Common.{◌≡◌, ℕ, zero, suc, ◌+◌, ◌-◌, ◌<◌, ◌≤◌, min, Bool, true, false, List, [], ◌∷◌, ◌++◌, map, length, get_or, take, drop, ℤ, pos, negsuc, ◌≤ℤ◌, sym, refl, ap, ◌∙◌, subst, inl, inr, arith}
 use Rattle.std.specs.List.{range_with_len, between}
 use Rattle.std.proofs.lemmas.List.FromFn.{length-map-range_with_len, get_or-map-range_with_len, map-range_with_len_more}
-use Rattle.std.proofs.lemmas.List.{length-take, length-drop, take_all, drop_all, length-map, get_or-map}
+use Rattle.std.proofs.lemmas.List.{length-take, length-drop, take_all}
 use Rattle.std.proofs.lemmas.Int.{ints}
 use Rattle.std.proofs.lemmas.Bool.{cases_lt, cases_Bool, cond-true, cond-false}
 use Rattle.encoding.specs.Offsets.{numbers, ceiling_of, place, at}
@@ -12,7 +12,7 @@ use Rattle.encoding.specs.declared.offsets.Offsets.{Offsets}
 use Rattle.encoding.specs.declared.offsets.Offsets.TheVariants.{Narrow, Wide}
 use Rattle.encoding.proofs.Scalars.{is_text_from, text_from}
 use Rattle.columns.specs.Lists.{Lists, Shaped, Ordered, TextsTo, bytes_at, row_at, meaning_of}
-use Rattle.columns.specs.Rows.{SourceRow, Meaning, Good}
+use Rattle.columns.specs.Rows.{SourceRow, Good}
 use Rattle.columns.specs.Shown.{reached, bytes_shown, readable, count_shown, row_shown, shown, lengths_shown}
 
 -- a part cut to the length of the data

@@ -1,9 +1,9 @@
 -- The lists of an offset column, after the Arrow Columnar Format: what they mean, and when they keep the rules.
-use Rattle.std.specs.Prelude.{◌≡◌, ℕ, ◌+◌, ◌-◌, ◌*◌, ◌<◌, ◌≤◌, Bool, true, List, map, length, ℤ, Some, None, Option, nat_le}
+use Rattle.std.specs.Prelude.{◌≡◌, ℕ, ◌+◌, ◌*◌, ◌<◌, ◌≤◌, Bool, true, List, map, length, ℤ, Some, None, Option, nat_le}
 use Rattle.std.specs.List.{range_with_len, between}
 use Rattle.encoding.specs.Bitmap.{bit}
-use Rattle.encoding.specs.Offsets.{numbers, ceiling_of, place, at, Right, FirstWrong, AllRight}
-use Rattle.encoding.specs.Utf8.{Text, Unreadable}
+use Rattle.encoding.specs.Offsets.{numbers, ceiling_of, place, at, AllRight}
+use Rattle.encoding.specs.Utf8.{Text}
 use Rattle.encoding.specs.declared.bitmap.Bitmap.{Bitmap}
 use Rattle.encoding.specs.declared.offsets.Offsets.{Offsets}
 use Rattle.columns.specs.Rows.{SourceRow, Meaning}

@@ -1,5 +1,5 @@
 -- Lengths as numbers in a signed width.
-use Rattle.std.specs.Prelude.{◌≡◌, ℕ, ◌*◌, Bool, cond, not, List, ◌++◌, map, length, drop, ℤ, Ok, Err, count_by, Result, nat_le, nat_lt}
+use Rattle.std.specs.Prelude.{ℕ, ◌*◌, cond, not, List, ◌++◌, map, length, drop, ℤ, Ok, Err, count_by, Result, nat_le, nat_lt}
 use Rattle.encoding.specs.Offsets.{wrapped}
 use Rattle.kernels.specs.declared.length.LengthFault.{LengthFault}
 use Rattle.kernels.specs.declared.length.LengthFault.TheVariants.{Rows}

@@ -1,5 +1,5 @@
 -- Lengths by kind, from what the kernel answers and writes.
-use Rattle.std.proofs.Common.{◌≡◌, ℕ, zero, suc, ◌*◌, ◌<◌, ◌≤◌, Bool, true, false, cond, ltb, ◌⊎◌, List, [], ◌∷◌, ◌++◌, map, length, get_or, drop, ℤ, pos, Some, None, Ok, Err, Option, Result, sym, refl, ap, ◌∙◌, subst, inl, inr, arith}
+use Rattle.std.proofs.Common.{◌≡◌, ℕ, suc, ◌<◌, ◌≤◌, Bool, true, false, cond, ltb, List, [], ◌∷◌, ◌++◌, map, length, get_or, drop, ℤ, pos, Some, None, Ok, Err, Option, sym, refl, ap, ◌∙◌, subst, inl, inr, arith}
 use Rattle.std.proofs.lemmas.List.{length-map}
 use Rattle.std.proofs.lemmas.Bool.{cases_Bool, cond-true, cond-false}
 use Rattle.encoding.specs.Offsets.{wide_of, ceiling_of, wrapped}
@@ -10,9 +10,9 @@ use Rattle.kernels.specs.Lengths.{in_unit, numbers_in, over_in, answered, filled
 use Rattle.kernels.specs.declared.length.LengthFault.{LengthFault}
 use Rattle.kernels.specs.declared.length.LengthFault.TheVariants.{Rows}
 use Rattle.kernels.specs.declared.length.Unit as unit
-use Rattle.kernels.specs.declared.length.Unit.TheVariants.{Bytes, Bits}
+use Rattle.kernels.specs.declared.length.Unit.TheVariants.{Bytes}
 use Rattle.kinds.specs.declared.fault.KindFault.{KindFault}
-use Rattle.kinds.specs.declared.fault.KindFault.TheVariants.{Lacks, Length}
+use Rattle.kinds.specs.declared.fault.KindFault.TheVariants.{Length}
 use Rattle.kinds.specs.Lengths.{Measured, ceiling, room, Low, true_lengths, in_width, over_of, laid, narrow_after, wide_after, answer, length_answer}
 
 pub answered_err : (u : unit.Unit) (c : ℕ) (ls : List ℕ) (places : ℕ) (e : LengthFault) → Err e ≡ answered u c ls places → (e ≡ Rows) × (ltb places (length ls) ≡ true)

@@ -1,5 +1,5 @@
 -- Lengths by kind: which list they go to, what is written there, and what is answered.
-use Rattle.std.specs.Prelude.{ℕ, ◌<◌, ◌≤◌, Bool, true, false, cond, List, ◌++◌, map, length, drop, ℤ, pos, Some, None, Ok, Err, Option, Result, nat_lt, slice_index}
+use Rattle.std.specs.Prelude.{ℕ, ◌<◌, ◌≤◌, Bool, cond, List, ◌++◌, map, length, drop, ℤ, pos, Some, None, Ok, Err, Option, Result, nat_lt, slice_index}
 use Rattle.encoding.specs.Offsets.{wide_of}
 use Rattle.columns.specs.OffsetColumn.{lists_of}
 use Rattle.columns.specs.Shown.{lengths_shown}

@@ -1,8 +1,8 @@
-use Rattle.std.proofs.Common.{◌≡◌, ℕ, ◌+◌, ◌<◌, ◌≤◌, ltb, leb, map, length, get_or, take, sym, refl, ap, ◌∙◌, arith}
+use Rattle.std.proofs.Common.{ℕ, ◌+◌, ◌<◌, ◌≤◌, ltb, leb, map, length, sym, refl, ap, ◌∙◌, arith}
 use Rattle.std.proofs.lemmas.List.{length-map}
 use Rattle.std.proofs.lemmas.Bool.{cond-true, lt-ltb}
 use Rattle.encoding.specs.Offsets.{wrapped}
-use Rattle.kernels.specs.Lengths.{in_unit, over_in, answered, filled}
+use Rattle.kernels.specs.Lengths.{in_unit}
 use Rattle.kernels.proofs.Filling.{one_more, over_more, over_same, answered_all, filled_all}
 use Rattle.kernels.proofs.length.fill.Goals.{then-not-fits, else-not-fits}
 use Rattle.kernels.proofs.length.fill.Goals as goal

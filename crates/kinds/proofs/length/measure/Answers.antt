@@ -1,4 +1,4 @@
-use Rattle.std.proofs.Common.{◌≡◌, Bool, Some, Ok, Err, sym, refl, ap, ◌∙◌}
+use Rattle.std.proofs.Common.{◌≡◌, Bool, Some, Ok, Err, sym, ap, ◌∙◌}
 use Rattle.std.proofs.lemmas.Result.{err_from_is_err_and}
 use Rattle.columns.specs.OffsetColumn.{lists_of}
 use Rattle.columns.specs.Shown.{lengths_shown}
@@ -24,11 +24,11 @@ wide_list c = c.choose.ensures.wide ∙ wide_is c.args.unit (measured c.args.col
 low_all : (c : After-choose) → Low (measured c.args.column.now)
 low_all c = low_is (measured c.args.column.now) (of c) (lists_of c.in-Offset.c).offsets (is c) c.is_wide-is_wide.ensures.value c.is_wide-is_wide.ensures.low
 
-pub returns-in_err-over : goal.returns-in_err-over
-returns-in_err-over c =
-    let a = (goal.at.returns-in_err-over c).After-choose in
+pub returns-in_err-over-in-Offset : goal.returns-in_err-over-in-Offset
+returns-in_err-over-in-Offset c =
+    let a = (goal.at.returns-in_err-over-in-Offset c).After-choose in
     let p = err_from_is_err_and c.from_residual.result c.from_residual.ensures.1 in
-    let k = answered_err c.args.unit (ceiling (of a).wide) (of a).lengths (room (of a).wide c.args.narrow.now c.args.wide.now) _ c.in_err-over.ensures.answer in
+    let k = answered_err c.args.unit (ceiling (of a).wide) (of a).lengths (room (of a).wide c.args.narrow.now c.args.wide.now) _ c.in_err-over-in-Offset.ensures.answer in
     record {
       answer = p.1 ∙ ap Err (p.2 ∙ ap Length k.0) ∙ answer_err (over_of c.args.unit) (measured c.args.column.now) (of a) c.args.narrow.now c.args.wide.now (is a) k.1;
       narrow = narrow_list a;
@@ -36,10 +36,10 @@ returns-in_err-over c =
       low = low_all a;
     }
 
-pub returns-in_ok-over : goal.returns-in_ok-over
-returns-in_ok-over c =
-    let a = (goal.at.returns-in_ok-over c).After-choose in
-    let k = answered_ok c.args.unit (ceiling (of a).wide) (of a).lengths (room (of a).wide c.args.narrow.now c.args.wide.now) _ c.in_ok-over.ensures.answer in
+pub returns-in_ok-over-in-Offset : goal.returns-in_ok-over-in-Offset
+returns-in_ok-over-in-Offset c =
+    let a = (goal.at.returns-in_ok-over-in-Offset c).After-choose in
+    let k = answered_ok c.args.unit (ceiling (of a).wide) (of a).lengths (room (of a).wide c.args.narrow.now c.args.wide.now) _ c.in_ok-over-in-Offset.ensures.answer in
     record {
       answer = ap Ok k.0 ∙ answer_ok (over_of c.args.unit) (measured c.args.column.now) (of a) c.args.narrow.now c.args.wide.now (is a) k.1;
       narrow = narrow_list a;

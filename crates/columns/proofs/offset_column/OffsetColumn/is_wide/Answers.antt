@@ -1,6 +1,5 @@
-use Rattle.std.proofs.Common.{◌≡◌, ℕ, ◌<◌, sym, ap, ◌∙◌, arith}
+use Rattle.std.proofs.Common.{arith}
 use Rattle.columns.specs.OffsetColumn.{lists_of}
-use Rattle.columns.specs.Shown.{count_shown}
 use Rattle.columns.proofs.Showing.{count_lengths, length_in, length_bytes_shown}
 use Rattle.columns.proofs.offset_column.OffsetColumn.is_wide.Goals as goal
 

@@ -1,8 +1,7 @@
-use Rattle.std.proofs.Common.{◌≡◌, ℕ, true, false, List, sym, refl, ap, ◌∙◌, subst, arith}
+use Rattle.std.proofs.Common.{refl}
 use Rattle.std.proofs.lemmas.Result.{err_from_is_err_and}
 use Rattle.std.proofs.lemmas.Bool.{both_ways}
-use Rattle.columns.specs.Lists.{Lists, Shaped}
-use Rattle.columns.specs.OffsetColumn.{Made, Refused}
+use Rattle.columns.specs.Lists.{Lists}
 use Rattle.columns.proofs.Making.{shaped_from, refused_text, texts_shown, granted}
 use Rattle.columns.proofs.offset_column.OffsetColumn.new.Goals as goal
 use Rattle.columns.proofs.offset_column.OffsetColumn.new.Goals.{then-text+in_ok-check_texts, else-text}

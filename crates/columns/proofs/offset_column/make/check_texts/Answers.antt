@@ -1,4 +1,4 @@
-use Rattle.std.proofs.Common.{◌≡◌, ℕ, List, subst, below_more}
+use Rattle.std.proofs.Common.{ℕ, List, subst, below_more}
 use Rattle.encoding.specs.Utf8.{Text, Unreadable}
 use Rattle.columns.proofs.offset_column.make.check_texts.Goals as goal
 

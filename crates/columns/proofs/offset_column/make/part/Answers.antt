@@ -1,4 +1,4 @@
-use Rattle.std.proofs.Common.{◌≡◌, ℕ, ◌+◌, ◌-◌, min, List, length, take, drop, sym, refl, ap, ◌∙◌}
+use Rattle.std.proofs.Common.{◌≡◌, ℕ, ◌-◌, min, List, length, take, drop, ap, ◌∙◌}
 use Rattle.std.specs.List.{between}
 use Rattle.columns.specs.Shown.{reached}
 use Rattle.columns.proofs.Showing.{part_clamped}

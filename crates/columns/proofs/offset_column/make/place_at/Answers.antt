@@ -1,7 +1,7 @@
-use Rattle.std.proofs.Common.{◌≡◌, ℕ, ◌<◌, ◌≤◌, min, length, ℤ, pos, negsuc, sym, refl, ap, ◌∙◌, inl, inr, arith}
+use Rattle.std.proofs.Common.{◌≡◌, ℕ, ◌<◌, length, ℤ, pos, negsuc, refl, ap, inl, inr, arith}
 use Rattle.std.proofs.lemmas.List.{get_or_past}
 use Rattle.std.proofs.lemmas.Bool.{cases_lt}
-use Rattle.encoding.specs.Offsets.{numbers, ceiling_of, place, at}
+use Rattle.encoding.specs.Offsets.{numbers, place, at}
 use Rattle.encoding.specs.declared.offsets.Offsets.{Offsets}
 use Rattle.columns.specs.Shown.{reached}
 use Rattle.columns.proofs.offset_column.make.place_at.Goals as goal

@@ -1,5 +1,4 @@
-use Rattle.std.proofs.Common.{◌≡◌, Bool, sym, ap, ◌∙◌}
-use Rattle.encoding.specs.Offsets.{wide_of}
+use Rattle.std.proofs.Common.{Bool, sym, ap, ◌∙◌}
 use Rattle.columns.specs.OffsetColumn.{lists_of}
 use Rattle.columns.proofs.Showing.{shown_text}
 use Rattle.kinds.specs.Kinds.{offset_kind, kind_of}

@@ -1,4 +1,4 @@
-use Rattle.std.proofs.Common.{◌≡◌, ◌<◌, length, sym, ap, ◌∙◌, arith}
+use Rattle.std.proofs.Common.{◌<◌, length, sym, ap, ◌∙◌, arith}
 use Rattle.columns.specs.OffsetColumn.{lists_of}
 use Rattle.columns.specs.Shown.{count_shown}
 use Rattle.columns.proofs.Showing.{count_lengths, length_in}

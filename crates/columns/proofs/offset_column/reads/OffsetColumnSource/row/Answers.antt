@@ -1,4 +1,4 @@
-use Rattle.std.proofs.Common.{◌≡◌, ◌<◌, sym, ap, ◌∙◌, arith}
+use Rattle.std.proofs.Common.{◌<◌, sym, ap, ◌∙◌, arith}
 use Rattle.columns.specs.OffsetColumn.{lists_of}
 use Rattle.columns.specs.Shown.{count_shown, readable}
 use Rattle.columns.proofs.Showing.{count_rows, row_in}
