@@ -9,8 +9,8 @@ pub returns-in_err-kind : goal.returns-in_err-kind
 returns-in_err-kind c =
     rw c.from_residual-in_err-kind.ensures (stands_kindless c.in_ok-size.ensures c.in_err-kind.ensures)
 
-pub returns-then-size-lt-KIND-BYTES : goal.returns-then-size-lt-KIND-BYTES
-returns-then-size-lt-KIND-BYTES c = λ x rest h.
+pub returns-then-size-lt-KIND_BYTES : goal.returns-then-size-lt-KIND_BYTES
+returns-then-size-lt-KIND_BYTES c = λ x rest h.
     omega (arith, (stands_parts x c.in_ok-size.ensures c.in_ok-kind.ensures h).0)
 
 pub returns-in_err-body : goal.returns-in_err-body
