@@ -16,6 +16,8 @@ HEAD = re.compile(r"^(\s*)((?:(?:abbrev|unfoldable|pub|record|data|ruleset|mutua
 GOAL = re.compile(r":\s+goal\.")
 NAME = re.compile(r"(?<![\w\-'′·◌])([A-Za-z][\w'′]*(?:-[\w'′]+)+)(?![\w\-'′])")
 CLAUSE = re.compile(r"\b(?:requires|ensures|ghost)\b")
+# Not-read would fall together with a variant of the enum JobFault.
+OTHER = {"Not-read": "IsNotRead"}
 
 
 def files(top, ending):
@@ -32,6 +34,8 @@ def text_of(path):
 
 
 def spelt(name):
+    if name in OTHER:
+        return OTHER[name]
     parts = name.split("-")
     if name[0].isupper():
         return "".join(p[:1].upper() + p[1:] for p in parts)

@@ -16,7 +16,7 @@ use Rattle.job.specs.declared.lengths.Lengths.{Lengths}
 use Rattle.job.specs.Faults.{unread_of}
 use Rattle.job.specs.Measured.{PartMeasured, ColumnMeasured}
 use Rattle.job.specs.States.{record_of, records_of, Has}
-use Rattle.job.specs.Transcript.{ColumnRecord, AllText, Read, NotRead, built}
+use Rattle.job.specs.Transcript.{ColumnRecord, AllText, Read, IsNotRead, built}
 
 -- what stands for an element past the end
 abbrev pub none : Entry
@@ -70,10 +70,10 @@ has_same cs k f g part rs h r =
       subst (λ (p : List ℕ). Laid p rs) (sym (ap (λ (c : ColumnRecord). c.part) e) ∙ h.part_is) r.rows,
     )
 
-pub not_laid : (cs : List ColumnRecord) (k : ℕ) (f : OffsetFormat) (part : List ℕ) → Has cs k f part → ((rs : List GivenRow) → Laid part rs → ⊥) → NotRead cs k
+pub not_laid : (cs : List ColumnRecord) (k : ℕ) (f : OffsetFormat) (part : List ℕ) → Has cs k f part → ((rs : List GivenRow) → Laid part rs → ⊥) → IsNotRead cs k
 not_laid cs k f part h n = λ g rs r. n rs (has_same cs k f g part rs h r).1
 
-pub not_text : (cs : List ColumnRecord) (k : ℕ) (f : OffsetFormat) (part : List ℕ) (rs : List GivenRow) → Has cs k f part → Laid part rs → f.text ≡ true → (AllText rs → ⊥) → NotRead cs k
+pub not_text : (cs : List ColumnRecord) (k : ℕ) (f : OffsetFormat) (part : List ℕ) (rs : List GivenRow) → Has cs k f part → Laid part rs → f.text ≡ true → (AllText rs → ⊥) → IsNotRead cs k
 not_text cs k f part rs h l t n = λ g qs r.
     let s = has_same cs k f g part qs h r in
     n (subst AllText (laid_same s.1 l) (r.texts (ap (λ (x : OffsetFormat). x.text) (sym s.0) ∙ t)))

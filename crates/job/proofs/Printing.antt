@@ -19,7 +19,7 @@ use Rattle.job.specs.Lines.{line, number_line}
 use Rattle.job.specs.Measured.{Tells, ColumnMeasured}
 use Rattle.job.specs.Printed as printed
 use Rattle.job.specs.Printed.{IsRead, MeasurePrinted, LackingPrinted, unread, lacking}
-use Rattle.job.specs.Transcript.{ColumnRecord, Read, NotRead, nulls, sizes, length_lines, Names, Measures, NotBuilt, Operation, not_read, not_built, too_many, measured}
+use Rattle.job.specs.Transcript.{ColumnRecord, Read, IsNotRead, nulls, sizes, length_lines, Names, Measures, NotBuilt, Operation, not_read, not_built, too_many, measured}
 
 -- a granted measure is printed as its lines
 lines_are : (u : unit.Unit) (n : ℕ) (wide : Bool) (rs : List GivenRow) (m : Lengths) → Tells u (ceiling wide) (nulls rs) (sizes rs) m

@@ -12,7 +12,7 @@ use Rattle.records.proofs.RowParts.{laid_same}
 use Rattle.records.proofs.Widths.{with_digit, width_value}
 use Rattle.job.specs.declared.column.OffsetFormat.{OffsetFormat}
 use Rattle.job.specs.Lines.{refusal_line}
-use Rattle.job.specs.Transcript.{ColumnRecord, built, AllText, ColumnAnswer, made, ill_formed, unbuilt, Read, NotRead, length_lines, Names, Measures, NotBuilt, Operation, not_read, not_built, too_many, measured, Listed, Columns, State, ended, answer_line, Step, too_long, bad, column, operation, Runs, done, more, OneTranscript}
+use Rattle.job.specs.Transcript.{ColumnRecord, built, AllText, ColumnAnswer, made, ill_formed, unbuilt, Read, IsNotRead, length_lines, Names, Measures, NotBuilt, Operation, not_read, not_built, too_many, measured, Listed, Columns, State, ended, answer_line, Step, too_long, bad, column, operation, Runs, done, more, OneTranscript}
 use Rattle.job.proofs.Finding.{read_has, has_same}
 
 -- a format back from its letters
@@ -162,7 +162,7 @@ measures_built (Join j k) u a h n = h
 measures_built (Length k) u a h n = n
 measures_built (BitLength k) u a h n = n
 
-unread_measured : (cs : List ColumnRecord) (x : Record) (u : unit.Unit) (a c : ℕ) (k : OffsetFormat) (rs : List GivenRow) → Names x c → NotRead cs c → Measures x u a → Read cs a k rs → ⊥
+unread_measured : (cs : List ColumnRecord) (x : Record) (u : unit.Unit) (a c : ℕ) (k : OffsetFormat) (rs : List GivenRow) → Names x c → IsNotRead cs c → Measures x u a → Read cs a k rs → ⊥
 unread_measured cs x u a c k rs n z m r = z k rs (subst (λ (i : ℕ). Read cs i k rs) (sym (measures_names x u a c m n)) r)
 
 many_few : (cs : List ColumnRecord) (x : Record) (u v : unit.Unit) (a c : ℕ) (j k : OffsetFormat) (rs qs : List GivenRow) → Measures x u a → Measures x v c

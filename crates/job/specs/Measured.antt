@@ -16,7 +16,7 @@ use Rattle.columns.specs.Faults.{number}
 use Rattle.records.specs.Layout.{Laid, GivenRow}
 use Rattle.job.specs.declared.column.OffsetFormat.{OffsetFormat}
 use Rattle.job.specs.declared.lengths.Lengths.{Lengths}
-use Rattle.job.specs.Transcript.{ColumnRecord, AllText, Read, NotRead, nulls, sizes}
+use Rattle.job.specs.Transcript.{ColumnRecord, AllText, Read, IsNotRead, nulls, sizes}
 
 -- how many rows are null
 abbrev pub null_rows : List SourceRow → ℕ
@@ -59,7 +59,7 @@ ColumnMeasured u cs k (Ok m) =
     (f : OffsetFormat) × (rs : List GivenRow) × Read cs k f rs × (length rs ≤ 4096) × Tells u (ceiling f.wide) (nulls rs) (sizes rs) m
 ColumnMeasured u cs k (Err Memory) = Unit {0}
 ColumnMeasured u cs k (Err Record) = ⊥
-ColumnMeasured u cs k (Err NotRead) = NotRead cs k
+ColumnMeasured u cs k (Err NotRead) = IsNotRead cs k
 ColumnMeasured u cs k (Err File) = ⊥
 ColumnMeasured u cs k (Err (Column f)) = ⊥
 ColumnMeasured u cs k (Err (Kind Lacks)) = ⊥

@@ -6,20 +6,20 @@ use Rattle.records.specs.declared.record.Record.{Record}
 use Rattle.records.specs.declared.record.Record.TheVariants.{Column, Cut, CutByCharacter, Join, Length, BitLength}
 use Rattle.job.specs.declared.column.OffsetFormat.{OffsetFormat}
 use Rattle.job.specs.Lines.{line}
-use Rattle.job.specs.Transcript.{ColumnRecord, Read, NotRead, length_lines, Operation}
+use Rattle.job.specs.Transcript.{ColumnRecord, Read, IsNotRead, length_lines, Operation}
 
 abbrev pub IsRead : List ColumnRecord → ℕ → Type 0
 IsRead cs c = (k : OffsetFormat) × (rs : List GivenRow) × Read cs c k rs
 
 -- measuring column c prints its lengths, or 18 or 12
 pub data MeasurePrinted (cs : List ColumnRecord) (n : ℕ) (u : unit.Unit) (c : ℕ) : List ℕ → Type 0 where
-  not_read : NotRead cs c → MeasurePrinted cs n u c (line n 18 0 0 0)
+  not_read : IsNotRead cs c → MeasurePrinted cs n u c (line n 18 0 0 0)
   too_many : (k : OffsetFormat) (rs : List GivenRow) → Read cs c k rs → 4096 < length rs → MeasurePrinted cs n u c (line n 12 0 0 0)
   measured : (k : OffsetFormat) (rs : List GivenRow) → Read cs c k rs → length rs ≤ 4096 → MeasurePrinted cs n u c (length_lines u n k.wide rs)
 
 -- an operation on two columns that is not built prints 18 or 15
 pub data LackingPrinted (cs : List ColumnRecord) (n a b : ℕ) : List ℕ → Type 0 where
-  unread : (c : ℕ) → (a ≡ c) ⊎ (b ≡ c) → NotRead cs c → LackingPrinted cs n a b (line n 18 0 0 0)
+  unread : (c : ℕ) → (a ≡ c) ⊎ (b ≡ c) → IsNotRead cs c → LackingPrinted cs n a b (line n 18 0 0 0)
   lacking : IsRead cs a → IsRead cs b → LackingPrinted cs n a b (line n 15 0 0 0)
 
 -- what the operation x adds; a column record is none, and adds nothing

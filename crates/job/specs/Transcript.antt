@@ -52,8 +52,8 @@ pub record Read (cs : List ColumnRecord) (c : ℕ) (k : OffsetFormat) (rs : List
   pub texts : k.text ≡ true → AllText rs
 
 -- no column of this number is read
-abbrev pub NotRead : List ColumnRecord → ℕ → Type 0
-NotRead cs c = (k : OffsetFormat) (rs : List GivenRow) → Read cs c k rs → ⊥
+abbrev pub IsNotRead : List ColumnRecord → ℕ → Type 0
+IsNotRead cs c = (k : OffsetFormat) (rs : List GivenRow) → Read cs c k rs → ⊥
 
 -- the lengths of rows, and how many rows are null
 abbrev pub sizes : List GivenRow → List ℕ
@@ -96,7 +96,7 @@ NotBuilt (BitLength k) = ⊥
 
 -- what operation n prints, after these column records
 pub data Operation (cs : List ColumnRecord) (n : ℕ) (x : Record) : List ℕ → Type 0 where
-  not_read : (c : ℕ) → Names x c → NotRead cs c → Operation cs n x (line n 18 0 0 0)
+  not_read : (c : ℕ) → Names x c → IsNotRead cs c → Operation cs n x (line n 18 0 0 0)
   not_built : NotBuilt x → ((c : ℕ) → Names x c → (k : OffsetFormat) × (rs : List GivenRow) × Read cs c k rs) → Operation cs n x (line n 15 0 0 0)
   too_many : (u : unit.Unit) (c : ℕ) (k : OffsetFormat) (rs : List GivenRow) → Measures x u c → Read cs c k rs → 4096 < length rs → Operation cs n x (line n 12 0 0 0)
   measured : (u : unit.Unit) (c : ℕ) (k : OffsetFormat) (rs : List GivenRow) → Measures x u c → Read cs c k rs → length rs ≤ 4096 → Operation cs n x (length_lines u n k.wide rs)

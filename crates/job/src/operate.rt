@@ -6,7 +6,7 @@ ghost use Rattle.job.specs.Faults.{number as fault-number};
 ghost use Rattle.job.specs.Lines.{line, number_line};
 ghost use Rattle.job.specs.Printed.{IsRead, MeasurePrinted, LackingPrinted, OperatePrinted};
 ghost use Rattle.job.specs.States.{records_of};
-ghost use Rattle.job.specs.Transcript.{NotRead};
+ghost use Rattle.job.specs.Transcript.{IsNotRead};
 
 use crate::entry::{Entry, measure_column};
 use crate::fault::JobFault;
@@ -78,7 +78,7 @@ fn print_lengths(
 
 // Whether a column is read.
 fn is_read(heap: Global, columns: &[Entry<'_>], column: u16) -> Result<bool, JobFault>
-    ensures { MatchResult result (λ b. MatchBool b (IsRead (records_of columns.now) column) (NotRead (records_of columns.now) column)) (λ e. e ≡ NoMemory) }
+    ensures { MatchResult result (λ b. MatchBool b (IsRead (records_of columns.now) column) (IsNotRead (records_of columns.now) column)) (λ e. e ≡ NoMemory) }
 {
     match measure_column(heap, columns, column, Unit::Bytes) {
         Ok(_) => Ok(true),
