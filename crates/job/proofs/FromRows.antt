@@ -1,5 +1,5 @@
 -- A column over the rows of a record.
-use Rattle.std.proofs.Common.{◌≡◌, ℕ, ◌+◌, ◌*◌, ◌<◌, ◌≤◌, Bool, true, cond, not, List, [], ◌∷◌, map, length, get_or, ℤ, Some, Ok, Err, vec_items, count_by, Result, sym, refl, ap, ◌∙◌, subst, arith, MatchResult}
+use Rattle.std.proofs.Common.{◌≡◌, ℕ, ◌+◌, ◌*◌, ◌<◌, ◌≤◌, Bool, true, cond, not, List, [], ◌∷◌, map, length, get_or, ℤ, Some, Ok, Err, vec_items, Result, sym, refl, ap, ◌∙◌, subst, arith, MatchResult}
 use Rattle.std.proofs.lemmas.List.{length-map}
 use Rattle.std.proofs.lemmas.Bool.{le-leb}
 use Rattle.encoding.specs.Bitmap.{bit}
@@ -17,7 +17,7 @@ use Rattle.columns.specs.Faults.{number}
 use Rattle.columns.specs.declared.fault.ColumnFault.{ColumnFault}
 use Rattle.columns.specs.declared.fault.ColumnFault.TheVariants.{Shape, Offset, View, Text}
 use Rattle.columns.specs.declared.offset_column.OffsetColumn.{OffsetColumn}
-use Rattle.columns.specs.Lists.{Lists, Shaped, Ordered, covers, valid_at, bytes_at, meaning_of}
+use Rattle.columns.specs.Lists.{Lists, covers, valid_at, meaning_of}
 use Rattle.columns.specs.OffsetColumn.{lists_of, Granted, Refused, Made}
 use Rattle.columns.specs.Rows.{SourceRow}
 use Rattle.columns.specs.Shown.{shown, lengths_shown}

@@ -1,5 +1,5 @@
 -- The lengths of a column, from what the call by kind answers and writes.
-use Rattle.std.proofs.Common.{◌≡◌, ℕ, ◌<◌, ◌≤◌, Bool, true, false, cond, ltb, ◌⊎◌, List, ◌++◌, length, take, drop, ℤ, Some, Ok, Err, Result, sym, refl, ap, ◌∙◌, subst, inl, inr, arith}
+use Rattle.std.proofs.Common.{◌≡◌, ℕ, ◌<◌, ◌≤◌, Bool, true, false, cond, ltb, List, ◌++◌, length, take, drop, ℤ, Some, Ok, Err, ap, ◌∙◌, inl, inr, arith}
 use Rattle.std.proofs.lemmas.List.{length-map, take_at}
 use Rattle.std.proofs.lemmas.Bool.{cases_Bool, cond-true, cond-false, ltb-true, ltb-false, le-ltb}
 use Rattle.encoding.specs.Offsets.{wrapped}
@@ -7,8 +7,8 @@ use Rattle.kernels.specs.Lengths.{in_unit, numbers_in, over_in}
 use Rattle.kernels.specs.declared.length.LengthFault.TheVariants.{Rows}
 use Rattle.kernels.specs.declared.length.Unit as unit
 use Rattle.kinds.specs.declared.fault.KindFault.{KindFault}
-use Rattle.kinds.specs.declared.fault.KindFault.TheVariants.{Lacks, Length}
-use Rattle.kinds.specs.Lengths.{Measured, ceiling, room, in_width, over_of, laid, narrow_after, wide_after, answer}
+use Rattle.kinds.specs.declared.fault.KindFault.TheVariants.{Length}
+use Rattle.kinds.specs.Lengths.{ceiling, room, in_width, over_of, laid, narrow_after, wide_after, answer}
 
 pub room_is : (w : Bool) (ns ws : List ℤ) → length ns ≡ 4096 → length ws ≡ 4096 → room w ns ws ≡ 4096
 room_is true ns ws p q = q

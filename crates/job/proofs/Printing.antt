@@ -1,16 +1,14 @@
 -- What operations print.
-use Rattle.std.proofs.Common.{◌≡◌, ℕ, ◌<◌, ◌≤◌, Bool, true, false, ◌⊎◌, List, ◌++◌, length, ℤ, Ok, Err, vec_items, Result, sym, refl, ap, ◌∙◌, subst, inl, inr, append_assoc, arith}
+use Rattle.std.proofs.Common.{◌≡◌, ℕ, Bool, ◌⊎◌, List, ◌++◌, length, ℤ, Ok, Err, vec_items, sym, refl, ap, ◌∙◌, subst, inl, inr, append_assoc}
 use Rattle.std.specs.List.{flat_map}
 use Rattle.std.proofs.lemmas.List.{length-map}
 use Rattle.kernels.specs.Lengths.{numbers_in, over_in}
 use Rattle.kernels.specs.declared.length.LengthFault.TheVariants.{Rows}
 use Rattle.kernels.specs.declared.length.Unit as unit
-use Rattle.kernels.specs.declared.length.Unit.TheVariants.{Bytes, Bits}
 use Rattle.kinds.specs.Lengths.{ceiling}
 use Rattle.kinds.specs.declared.fault.KindFault.TheVariants.{Lacks, Length}
 use Rattle.records.specs.Layout.{GivenRow}
 use Rattle.records.specs.declared.record.Record as rec
-use Rattle.job.specs.declared.column.OffsetFormat.{OffsetFormat}
 use Rattle.job.specs.declared.fault.JobFault.{JobFault}
 use Rattle.job.specs.declared.fault.JobFault.TheVariants.{Memory, Record, NotRead, File, Column, Kind}
 use Rattle.job.specs.declared.lengths.Lengths.{Lengths}
@@ -19,7 +17,7 @@ use Rattle.job.specs.Lines.{line, number_line}
 use Rattle.job.specs.Measured.{Tells, ColumnMeasured}
 use Rattle.job.specs.Printed as printed
 use Rattle.job.specs.Printed.{IsRead, MeasurePrinted, LackingPrinted, unread, lacking}
-use Rattle.job.specs.Transcript.{ColumnRecord, Read, IsNotRead, nulls, sizes, length_lines, Names, Measures, NotBuilt, Operation, not_read, not_built, too_many, measured}
+use Rattle.job.specs.Transcript.{ColumnRecord, nulls, sizes, length_lines, Names, Measures, NotBuilt, Operation, not_read, not_built, too_many, measured}
 
 -- a granted measure is printed as its lines
 lines_are : (u : unit.Unit) (n : ℕ) (wide : Bool) (rs : List GivenRow) (m : Lengths) → Tells u (ceiling wide) (nulls rs) (sizes rs) m

@@ -1,18 +1,15 @@
 -- Steps of a job.
-use Rattle.std.proofs.Common.{◌≡◌, ℕ, ◌+◌, ◌<◌, ◌≤◌, Bool, true, false, List, [], ◌∷◌, ◌++◌, length, Option, sym, refl, ap, ◌∙◌, subst, append_assoc, append-nil, arith, Bor}
+use Rattle.std.proofs.Common.{◌≡◌, ℕ, ◌+◌, ◌<◌, ◌≤◌, Bool, true, List, [], ◌∷◌, ◌++◌, length, sym, refl, ap, ◌∙◌, subst, append_assoc, append-nil, arith, Bor}
 use Rattle.std.proofs.lemmas.List.{length-append}
-use Rattle.records.specs.Formats.{letters, Lawful}
-use Rattle.records.specs.Layout.{Stands, Laid, GivenRow, given_of, GivenRecord, given_column}
-use Rattle.records.specs.declared.format.Format.{Format}
+use Rattle.records.specs.Layout.{Stands, Laid, given_of}
 use Rattle.records.specs.declared.record.Record.{Record}
 use Rattle.records.specs.declared.record.Record.TheVariants.{Column, Cut, CutByCharacter, Join, Length, BitLength}
 use Rattle.records.proofs.Records.{stands_same, stands_shorter}
 use Rattle.job.specs.Lines.{refusal_line}
 use Rattle.job.specs.Printed.{OperatePrinted}
-use Rattle.job.specs.States.{record_of}
 use Rattle.job.specs.Steps.{Stopped, Took, refused, taken, Made, Stepped}
-use Rattle.job.specs.Taken.{Taken, NotListed}
-use Rattle.job.specs.Transcript.{ColumnRecord, State, ended, Step, too_long, bad, column, operation, Listed, Operation, Runs, done, more, Transcript}
+use Rattle.job.specs.Taken.{NotListed}
+use Rattle.job.specs.Transcript.{ColumnRecord, State, ended, Step, too_long, bad, column, operation, Listed, Operation, Runs, done, more}
 
 -- a step that ends the job
 ended_by : (k : ℕ) (s t : State) (before after : List ℕ) (b : Bool) → Stopped k s t before after b → 0 < length s.rest → Step s (refusal_line k) (ended s) → Stepped s t before after b

@@ -1,8 +1,8 @@
 -- A file has one transcript.
-use Rattle.std.proofs.Common.{◌≡◌, ℕ, ◌+◌, ◌*◌, ◌<◌, ◌≤◌, Bool, true, cond, eqb, ◌⊎◌, List, [], ◌∷◌, ◌++◌, length, get_or, drop, Some, None, fold, Option, sym, refl, ap, ◌∙◌, subst, inl, inr, arith}
+use Rattle.std.proofs.Common.{◌≡◌, ℕ, ◌+◌, ◌*◌, ◌<◌, ◌≤◌, cond, eqb, List, [], ◌∷◌, ◌++◌, length, get_or, drop, Some, None, fold, Option, sym, refl, ap, ◌∙◌, subst, arith}
 use Rattle.kernels.specs.declared.length.Unit as unit
 use Rattle.records.specs.Formats.{letters, Lawful}
-use Rattle.records.specs.Layout.{Stands, Laid, GivenRow, GivenRecord, given_of, given_column, given_cut, given_cut_by_character, given_join, given_length, given_bit_length}
+use Rattle.records.specs.Layout.{Laid, GivenRow, GivenRecord, given_of, given_column, given_cut, given_cut_by_character, given_join, given_length, given_bit_length}
 use Rattle.records.specs.declared.format.Format.{Format}
 use Rattle.records.specs.declared.format.Format.TheVariants.{Utf8, LargeUtf8, Binary, LargeBinary, Utf8View, BinaryView, FixedSizeBinary}
 use Rattle.records.specs.declared.record.Record.{Record}
@@ -11,8 +11,7 @@ use Rattle.records.proofs.Records.{stands_same, stands_shorter}
 use Rattle.records.proofs.RowParts.{laid_same}
 use Rattle.records.proofs.Widths.{with_digit, width_value}
 use Rattle.job.specs.declared.column.OffsetFormat.{OffsetFormat}
-use Rattle.job.specs.Lines.{refusal_line}
-use Rattle.job.specs.Transcript.{ColumnRecord, built, AllText, ColumnAnswer, made, ill_formed, unbuilt, Read, IsNotRead, length_lines, Names, Measures, NotBuilt, Operation, not_read, not_built, too_many, measured, Listed, Columns, State, ended, answer_line, Step, too_long, bad, column, operation, Runs, done, more, OneTranscript}
+use Rattle.job.specs.Transcript.{ColumnRecord, built, ColumnAnswer, made, ill_formed, unbuilt, Read, IsNotRead, length_lines, Names, Measures, NotBuilt, Operation, not_read, not_built, too_many, measured, Listed, Columns, State, answer_line, Step, too_long, bad, column, operation, Runs, done, more, OneTranscript}
 use Rattle.job.proofs.Finding.{read_has, has_same}
 
 -- a format back from its letters

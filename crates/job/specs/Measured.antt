@@ -7,7 +7,6 @@ use Rattle.columns.specs.Shown.{shown, lengths_shown}
 use Rattle.kernels.specs.Lengths.{numbers_in, over_in}
 use Rattle.kernels.specs.declared.length.LengthFault.TheVariants.{Rows}
 use Rattle.kernels.specs.declared.length.Unit as unit
-use Rattle.kinds.specs.declared.fault.KindFault.{KindFault}
 use Rattle.kinds.specs.declared.fault.KindFault.TheVariants.{Lacks, Length}
 use Rattle.job.specs.declared.fault.JobFault.{JobFault}
 use Rattle.job.specs.declared.fault.JobFault.TheVariants.{Memory, Record, NotRead, File, Column, Kind}

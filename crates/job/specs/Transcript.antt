@@ -1,5 +1,5 @@
 -- What a job prints, record by record.
-use Rattle.std.specs.Prelude.{◌≡◌, ℕ, ◌+◌, ◌<◌, ◌≤◌, Bool, true, false, cond, not, ◌⊎◌, List, [], ◌∷◌, ◌++◌, map, length, get_or, ℤ, Some, None, count_by, Option, slice_index_or}
+use Rattle.std.specs.Prelude.{◌≡◌, ℕ, ◌+◌, ◌<◌, ◌≤◌, Bool, true, false, not, ◌⊎◌, List, [], ◌∷◌, ◌++◌, map, length, get_or, Some, None, count_by, Option, slice_index_or}
 use Rattle.std.specs.List.{flat_map}
 use Rattle.encoding.specs.Utf8.{Text}
 use Rattle.kernels.specs.Lengths.{numbers_in, over_in}

@@ -1,12 +1,11 @@
-use Rattle.std.proofs.Common.{◌≡◌, ℕ, ◌<◌, ◌≤◌, List, map, length, Some, Ok, Err, vec_items, sym, refl, ap, ◌∙◌, subst, arith}
+use Rattle.std.proofs.Common.{ℕ, ◌≤◌, List, map, Some, Ok, Err, sym, refl, ap, ◌∙◌, subst}
 use Rattle.std.proofs.lemmas.Option.{MatchOption-at_some}
 use Rattle.std.proofs.lemmas.Result.{err_from_is_err_and}
 use Rattle.columns.specs.Lists.{Lists}
-use Rattle.columns.specs.OffsetColumn.{lists_of}
 use Rattle.records.specs.Layout.{GivenRow, Laid}
 use Rattle.job.specs.Gathered.{Lays}
-use Rattle.job.specs.Measured.{MeasuredAs, PartMeasured}
-use Rattle.job.proofs.FromRows.{Over, GrantedOver, RefusedOver, over_from, made_over, part_from}
+use Rattle.job.specs.Measured.{MeasuredAs}
+use Rattle.job.proofs.FromRows.{Over, over_from, made_over, part_from}
 use Rattle.job.proofs.column.measure_in.Given as given
 use Rattle.job.proofs.column.measure_in.Goals.{After-new}
 use Rattle.job.proofs.column.measure_in.Goals as goal

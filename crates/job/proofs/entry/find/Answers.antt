@@ -1,5 +1,5 @@
-use Rattle.std.proofs.Common.{◌≡◌, ℕ, List, sym, refl, ap, ◌∙◌, subst, arith}
-use Rattle.job.proofs.Finding.{none, has_at, has_none, has_only}
+use Rattle.std.proofs.Common.{sym, ◌∙◌, arith}
+use Rattle.job.proofs.Finding.{has_at, has_none, has_only}
 use Rattle.job.proofs.entry.find.Goals as goal
 
 pub returns-then-k-columns : goal.returns-then-k-columns

@@ -1,4 +1,4 @@
-use Rattle.std.proofs.Common.{◌≡◌, Ok, Err, sym, refl, ap, ◌∙◌, subst}
+use Rattle.std.proofs.Common.{Err, sym, subst}
 use Rattle.job.specs.declared.fault.JobFault.{JobFault}
 use Rattle.job.specs.Measured.{ColumnMeasured}
 use Rattle.job.specs.States.{records_of}

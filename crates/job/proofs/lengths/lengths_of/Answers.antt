@@ -1,10 +1,9 @@
-use Rattle.std.proofs.Common.{◌≡◌, ℕ, ◌≤◌, Bool, cond, List, length, take, Ok, Err, sym, refl, ap, ◌∙◌, subst, arith}
+use Rattle.std.proofs.Common.{ℕ, Bool, cond, length, take, Err, sym, ap, ◌∙◌, subst, arith}
 use Rattle.std.proofs.lemmas.Result.{err_from_is_err_and}
 use Rattle.encoding.specs.Offsets.{wide_of}
 use Rattle.columns.specs.OffsetColumn.{lists_of}
 use Rattle.columns.specs.Shown.{lengths_shown}
 use Rattle.kernels.specs.Lengths.{numbers_in, over_in}
-use Rattle.kinds.specs.Lengths.{ceiling, room}
 use Rattle.kinds.specs.declared.fault.KindFault.{KindFault}
 use Rattle.kinds.proofs.Measuring.{ceiling_by}
 use Rattle.job.specs.declared.fault.JobFault.TheVariants.{Kind}

@@ -1,4 +1,4 @@
-use Rattle.std.proofs.Common.{◌≡◌, ℕ, ◌⊎◌, string_bytes, sym, refl, ap, ◌∙◌, subst, inl, inr}
+use Rattle.std.proofs.Common.{◌≡◌, ℕ, ◌⊎◌, string_bytes, sym, refl, subst, inl, inr}
 use Rattle.kernels.specs.declared.length.Unit.TheVariants.{Bytes, Bits}
 use Rattle.records.specs.declared.record.Record.{Record}
 use Rattle.job.specs.Printed.{OperatePrinted}

@@ -1,8 +1,7 @@
-use Rattle.std.proofs.Common.{◌≡◌, sym, refl, ap, ◌∙◌, subst, inl, inr}
+use Rattle.std.proofs.Common.{refl, inl, inr}
 use Rattle.job.proofs.Failing.{made_weaker}
 use Rattle.std.proofs.lemmas.Bool.Decides.{when_true, when_false}
 use Rattle.job.specs.Printed.{unread, lacking}
-use Rattle.job.specs.States.{records_of}
 use Rattle.job.proofs.operate.print_lacking.Goals as goal
 
 pub returns-then-not-first : goal.returns-then-not-first

@@ -1,13 +1,12 @@
-use Rattle.std.proofs.Common.{◌≡◌, sym, refl, ap, ◌∙◌, subst}
 use Rattle.job.proofs.Failing.{made_weaker}
 use Rattle.job.specs.States.{records_of}
 use Rattle.job.proofs.Printing.{measure_granted, measure_refused}
 use Rattle.job.proofs.operate.print_lengths.Goals as goal
 
-pub returns-in_ok-put_lengths : goal.returns-in_ok-put_lengths
-returns-in_ok-put_lengths c = (
+pub returns-in_ok-put_lengths-in-Ok : goal.returns-in_ok-put_lengths-in-Ok
+returns-in_ok-put_lengths-in-Ok c = (
   _,
-  c.in_ok-put_lengths.ensures,
+  c.in_ok-put_lengths-in-Ok.ensures,
   measure_granted (records_of c.args.columns.now) c.args.n c.args.unit c.args.column c.in-Ok.lengths c.in-Ok.ensures,
 )
 

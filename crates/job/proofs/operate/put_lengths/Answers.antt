@@ -1,7 +1,7 @@
-use Rattle.std.proofs.Common.{◌≡◌, ℕ, List, ◌++◌, ℤ, string_bytes, sym, refl, ap, ◌∙◌, subst}
+use Rattle.std.proofs.Common.{List, ◌++◌, ℤ, string_bytes, ap, ◌∙◌}
 use Rattle.std.specs.List.{flat_map}
 use Rattle.std.proofs.lemmas.Result.{IfOk-weaker}
-use Rattle.job.specs.Lines.{line, number_line}
+use Rattle.job.specs.Lines.{number_line}
 use Rattle.job.proofs.Printing.{added_after}
 use Rattle.job.proofs.operate.put_lengths.Goals as goal
 

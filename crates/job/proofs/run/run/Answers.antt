@@ -1,4 +1,4 @@
-use Rattle.std.proofs.Common.{◌≡◌, Bool, true, false, [], string_bytes, subst}
+use Rattle.std.proofs.Common.{[], string_bytes, subst}
 use Rattle.job.specs.Steps.{state_of, Stepped}
 use Rattle.job.specs.Transcript.{State}
 use Rattle.job.proofs.Stepping.{one_step, at_end}

@@ -1,9 +1,8 @@
-use Rattle.std.proofs.Common.{◌≡◌, List, [], ◌∷◌, ◌++◌, vec_items, sym, refl, ap, ◌∙◌, subst}
+use Rattle.std.proofs.Common.{List, vec_items, refl, ap, ◌∙◌}
 use Rattle.std.proofs.lemmas.List.{map_push}
 use Rattle.std.proofs.lemmas.Option.{MatchOption-at_some}
-use Rattle.job.specs.declared.entry.Entry.{Entry}
 use Rattle.job.specs.States.{record_of, records_of}
-use Rattle.job.specs.Steps.{state_of, taken}
+use Rattle.job.specs.Steps.{taken}
 use Rattle.job.specs.Transcript.{ColumnRecord}
 use Rattle.job.proofs.run.Job.take.Goals as goal
 
