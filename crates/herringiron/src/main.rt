@@ -1,4 +1,6 @@
 // The program: runs a job file and prints its transcript as it goes.
+#![tactic(auto)]
+
 use anyhow::anyhow;
 use job::run::Job;
 use std::alloc::Global;

@@ -27,6 +27,8 @@
 // A line that begins with `#`, and an empty one, is passed over.
 // The row of a utf8 vector is also given to the reader of `std`: a line differs where one of the two readers does.
 // A line that cannot be read differs too. Each line that differs is echoed.
+#![tactic(auto)]
+
 mod encodings;
 mod jobs;
 mod offset_columns;
