@@ -14,6 +14,7 @@ import sys
 
 HEAD = re.compile(r"^(\s*)((?:(?:abbrev|unfoldable|pub|record|data|ruleset|mutual)\s+)*)([^\s:(){},;=«»]+)(?=\s+(?:[({].*[)}]\s*)?:\s)")
 GOAL = re.compile(r":\s+goal\.")
+ALIAS = re.compile(r"\bas ([a-z][\w']*(?:-[\w']+)+)(?=\s*[,};\n])")
 NAME = re.compile(r"(?<![\w\-'′·◌])([A-Za-z][\w'′]*(?:-[\w'′]+)+)(?![\w\-'′])")
 CLAUSE = re.compile(r"\b(?:requires|ensures|ghost)\b")
 # Not-read would fall together with a variant of the enum JobFault.
@@ -59,6 +60,11 @@ def definitions(top):
                 dashed[name] = spelt(name)
                 if m.group(1):
                     fields.add(name)
+    for path in list(files(top, ".antt")) + list(files(top, ".rt")):
+        for line in text_of(path).split("\n"):
+            if line.lstrip().startswith(("use ", "ghost use ")):
+                for name in ALIAS.findall(line):
+                    dashed[name] = spelt(name)
     return dashed, fields, plain
 
 

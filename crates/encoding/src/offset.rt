@@ -1,7 +1,7 @@
 // The two widths of offsets, under one trait.
 ghost use Rattle.std.specs.Prelude.{◌≡◌, ℕ, ◌^◌, ◌<◌, ◌≤◌, map, ℤ, pos, ◌<ℤ◌, MatchOption};
 ghost use Rattle.encoding.specs.Offsets.{numbers, ceiling_of, wrapped};
-ghost use Rattle.std.proofs.Common.{rules};
+ghost use Rattle.std.proofs.Common.{lit<, lit≤};
 
 use crate::offsets::Offsets;
 
@@ -44,11 +44,11 @@ impl Offset for i32 {
 
     ghost ceiling = { 2147483647 };
 
-    ghost small = { Prim.search rules };
+    ghost small = { lit< tt };
 
-    ghost least = { Prim.search rules };
+    ghost least = { lit≤ tt };
 
-    ghost same = { Prim.search rules };
+    ghost same = { λ a b same. same };
 
     fn max_value() -> u64 {
         2_147_483_647
@@ -80,11 +80,11 @@ impl Offset for i64 {
 
     ghost ceiling = { 9223372036854775807 };
 
-    ghost small = { Prim.search rules };
+    ghost small = { lit< tt };
 
-    ghost least = { Prim.search rules };
+    ghost least = { lit≤ tt };
 
-    ghost same = { Prim.search rules };
+    ghost same = { λ a b same. same };
 
     fn max_value() -> u64 {
         9_223_372_036_854_775_807

@@ -2,7 +2,7 @@
 ghost use Rattle.std.specs.Prelude.{◌≡◌, ◌≤◌, length as size};
 ghost use Rattle.kinds.specs.Lengths.{ceiling};
 ghost use Rattle.job.specs.Measured.{PartMeasured};
-ghost use Rattle.job.specs.Transcript.{built as built-format};
+ghost use Rattle.job.specs.Transcript.{built as built_format};
 
 use crate::fault::JobFault;
 use crate::gather::gather;
@@ -23,7 +23,7 @@ pub struct OffsetFormat {
 
 /// The format, where it is built. Example: `U` is text with 64-bit offsets.
 pub fn built(format: Format) -> Option<OffsetFormat>
-    ensures { result ≡ built-format format }
+    ensures { result ≡ built_format format }
 {
     match format {
         Format::Utf8 => Some(OffsetFormat {

@@ -1,8 +1,8 @@
 // Why a job's operation, column or file is refused.
 ghost use Rattle.std.specs.Prelude.{◌≡◌};
-ghost use Rattle.columns.specs.Faults.{number as column-fault-number};
-ghost use Rattle.kinds.specs.Faults.{number as kind-fault-number};
-ghost use Rattle.job.specs.Faults.{number as fault-number, unread_of, read_answer, making_answer};
+ghost use Rattle.columns.specs.Faults.{number as column_fault_number};
+ghost use Rattle.kinds.specs.Faults.{number as kind_fault_number};
+ghost use Rattle.job.specs.Faults.{number as fault_number, unread_of, read_answer, making_answer};
 ghost use Rattle.job.specs.declared.fault.JobFault.TheVariants.{Memory, Record, Column, Kind};
 
 use columns::fault::ColumnFault;
@@ -69,7 +69,7 @@ impl From<KindFault> for JobFault {
 }
 
 fn column_number(fault: ColumnFault) -> u64
-    ensures { result ≡ column-fault-number fault }
+    ensures { result ≡ column_fault_number fault }
 {
     match fault {
         ColumnFault::Shape => 1,
@@ -80,7 +80,7 @@ fn column_number(fault: ColumnFault) -> u64
 }
 
 fn kind_number(fault: KindFault) -> u64
-    ensures { result ≡ kind-fault-number fault }
+    ensures { result ≡ kind_fault_number fault }
 {
     match fault {
         KindFault::Lacks => 15,
@@ -91,7 +91,7 @@ fn kind_number(fault: KindFault) -> u64
 impl JobFault {
     /// The number that is printed for the fault; want of memory has none and answers 0.
     pub fn number(self) -> u64
-        ensures { result ≡ fault-number self }
+        ensures { result ≡ fault_number self }
     {
         match self {
             JobFault::Memory => 0,

@@ -2,7 +2,7 @@
 ghost use Rattle.std.specs.Prelude.{◌≡◌, ℕ, List, ◌++◌, string_bytes, MatchBool, MatchResult, OnOk, ◌≢◌};
 ghost use Rattle.std.specs.List.{flat_map};
 ghost use Rattle.job.specs.declared.fault.JobFault.TheVariants.{Memory as NoMemory};
-ghost use Rattle.job.specs.Faults.{number as fault-number};
+ghost use Rattle.job.specs.Faults.{number as fault_number};
 ghost use Rattle.job.specs.Lines.{line, number_line};
 ghost use Rattle.job.specs.Printed.{IsRead, MeasurePrinted, LackingPrinted, OperatePrinted};
 ghost use Rattle.job.specs.States.{records_of};
@@ -46,7 +46,7 @@ fn put_lengths(heap: Global, out: &mut String, n: u64, lengths: &Lengths) -> Res
 
 // Adds an operation's line with the fault's number. Want of memory is passed on.
 fn put_fault(heap: Global, out: &mut String, n: u64, fault: JobFault) -> Result<(), JobFault>
-    ensures { MatchResult result (λ _. (fault ≢ NoMemory) × (string_bytes out.new ≡ string_bytes out.old ++ line n (fault-number fault) 0 0 0)) (λ e. e ≡ NoMemory) }
+    ensures { MatchResult result (λ _. (fault ≢ NoMemory) × (string_bytes out.new ≡ string_bytes out.old ++ line n (fault_number fault) 0 0 0)) (λ e. e ≡ NoMemory) }
 {
     if let JobFault::Memory = fault {
         return Err(JobFault::Memory);

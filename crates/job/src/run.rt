@@ -1,7 +1,7 @@
 // A job run record by record.
 ghost use Rattle.std.specs.Prelude.{◌≡◌, ◌≤◌, true, [], length as size, string_bytes, MatchResult};
 ghost use Rattle.job.specs.declared.fault.JobFault.TheVariants.{Memory as NoMemory};
-ghost use Rattle.job.specs.Faults.{number as fault-number};
+ghost use Rattle.job.specs.Faults.{number as fault_number};
 ghost use Rattle.job.specs.Steps.{state_of, Stopped, Took, Stepped};
 ghost use Rattle.job.specs.Transcript.{Transcript, OneTranscript};
 
@@ -37,7 +37,7 @@ impl<'a> Job<'a> {
 
     // Prints a refusal that ends the job.
     fn stop(&mut self, fault: JobFault, out: &mut String) -> Result<bool, JobFault>
-        ensures { MatchResult result (λ more. Stopped (fault-number fault) (state_of self.old) (state_of self.new) (string_bytes out.old) (string_bytes out.new) more) (λ e. e ≡ NoMemory) }
+        ensures { MatchResult result (λ more. Stopped (fault_number fault) (state_of self.old) (state_of self.new) (string_bytes out.old) (string_bytes out.new) more) (λ e. e ≡ NoMemory) }
     {
         put_refusal(self.heap, out, fault.number())?;
         self.rest = &[];
