@@ -19,6 +19,8 @@ NAME = re.compile(r"(?<![\w\-'′·◌])([A-Za-z][\w'′]*(?:-[\w'′]+)+)(?![\w
 CLAUSE = re.compile(r"\b(?:requires|ensures|ghost)\b")
 # Not-read would fall together with a variant of the enum JobFault.
 OTHER = {"Not-read": "IsNotRead"}
+# A type that the kit's script takes for a function.
+LEFT = {"Goes_on": "GoesOn"}
 
 
 def files(top, ending):
@@ -80,7 +82,10 @@ def turned(piece, dashed, fields):
                 return name
         return dashed[name]
 
-    return NAME.sub(new, piece)
+    piece = NAME.sub(new, piece)
+    for old, name in LEFT.items():
+        piece = re.sub(rf"\b{old}\b", name, piece)
+    return piece
 
 
 def in_proof(text, dashed, fields):

@@ -97,12 +97,12 @@ part_small file rest x f p e h =
     )
 
 -- a whole run, step by step
-abbrev pub Goes_on : State → State → List ℕ → Type 0
-Goes_on start s out = (b : List ℕ) → Runs s b → Runs start (out ++ b)
+abbrev pub GoesOn : State → State → List ℕ → Type 0
+GoesOn start s out = (b : List ℕ) → Runs s b → Runs start (out ++ b)
 
-pub one_step : (start s t : State) (before after : List ℕ) → Goes_on start s before → Made s t before after → Goes_on start t after
+pub one_step : (start s t : State) (before after : List ℕ) → GoesOn start s before → Made s t before after → GoesOn start t after
 one_step start s t before after g m = λ b r.
     subst (Runs start) (sym (append_assoc before m.added b) ∙ ap (λ (o : List ℕ). o ++ b) (sym m.printed)) (g (m.added ++ b) (more m.stepped r))
 
-pub at_end : (start s t : State) (before after : List ℕ) → Goes_on start s before → (s.rest ≡ []) × (t ≡ s) × (after ≡ before) → Runs start after
+pub at_end : (start s t : State) (before after : List ℕ) → GoesOn start s before → (s.rest ≡ []) × (t ≡ s) × (after ≡ before) → Runs start after
 at_end start s t before after g h = subst (Runs start) (append-nil before ∙ sym h.2) (g [] (done h.0))
