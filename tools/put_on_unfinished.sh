@@ -1,5 +1,5 @@
 #!/bin/sh
-# Puts the unfinished work of unfinished/ on the tree: the five crates that it adds, and its changes to the crates and pages that stand here.
+# Puts the unfinished work of unfinished/ on the tree: the files that it adds, and its changes to the crates and pages that stand here.
 # Run it at the top of a clone, with everything committed. It changes contracts and expected outputs that stand: docs/PORT.md lists them.
 set -e
 cd "$(dirname "$0")/.."
