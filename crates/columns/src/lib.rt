@@ -2,6 +2,7 @@
 #![tactic(auto)]
 
 pub mod fault;
+pub mod lists;
 pub mod measure;
 pub mod offset_column;
 pub mod row;
