@@ -6,4 +6,5 @@ pub mod lists;
 pub mod measure;
 pub mod offset_column;
 pub mod row;
+pub mod rows;
 pub mod source;
