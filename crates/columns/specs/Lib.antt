@@ -1,5 +1,6 @@
 pub mod Faults
+pub mod Grounds
 pub mod Lists
+pub mod Meanings
 pub mod OffsetColumn
 pub mod Rows
-pub mod Shown

@@ -2,7 +2,9 @@
 #![tactic(auto)]
 
 pub mod fault;
+pub mod lists;
 pub mod measure;
 pub mod offset_column;
 pub mod row;
+pub mod rows;
 pub mod source;

@@ -1,16 +1,36 @@
 // Columns by offsets, of either width, text or binary.
-use encoding::bitmap::Bitmap;
-use encoding::offsets::Offsets;
+ghost use Rattle.columns.specs.Lists.{Shaped, Ordered, TextsTested};
 
-pub mod make;
+use crate::fault::ColumnFault;
+use crate::lists::Lists;
+
 pub mod reads;
 
-/// A column over lent lists: one offset more than rows, the data that they cut, and a validity map or none.
+/// A column over lent lists that keep the rules.
 #[derive(Clone, Copy)]
 pub struct OffsetColumn<'a> {
-    text: bool,
-    rows: usize,
-    offsets: Offsets<'a>,
-    data: &'a [u8],
-    validity: Option<Bitmap<'a>>,
+    lists: Lists<'a>,
+    ghost shaped: { Shaped lists },
+    ghost ordered: { Ordered lists },
+    ghost texts: { TextsTested lists },
+}
+
+impl<'a> OffsetColumn<'a> {
+    ghost use Rattle.columns.specs.OffsetColumn.{Made};
+
+    /// The column over these lists, or the first ground that holds against it: 1 for counts and sizes, 2 for the first
+    /// offset that breaks the rules, 4 for the first row of a text column that is ill-formed.
+    /// Example: rows 2, offsets 0 1 3, data "abc" has the rows "a" and "bc".
+    pub fn new(lists: Lists<'a>) -> Result<OffsetColumn<'a>, ColumnFault>
+        ensures { Made lists.entry result }
+    {
+        if !lists.is_shaped() {
+            return Err(ColumnFault::Shape);
+        }
+        lists.offsets.check(lists.data.len() as u64)?;
+        if lists.text {
+            lists.check_texts()?;
+        }
+        Ok(OffsetColumn { lists })
+    }
 }

@@ -12,13 +12,15 @@ pub trait Source {
     fn is_text(&self) -> bool
         ensures { result ≡ (meaning self.now).text };
 
-    /// How many rows it has; and what holds of every source.
+    /// How many rows it has.
     fn count(&self) -> usize
-        ensures value { result ≡ length (meaning self.now).rows }
-        ensures good { Good (meaning self.now) };
+        ensures { result ≡ length (meaning self.now).rows };
 
     /// The row at i, or nothing from the count on.
     fn row(&self, i: usize) -> Option<Row<'_>>
         ensures { MatchOption result (length (meaning self.now).rows ≤ i)
             (λ w. (i < length (meaning self.now).rows) × ((d : SourceRow) → slice_index_or (meaning self.now).rows i d ≡ row_of w)) };
+
+    // What holds of every source.
+    ghost good: { (s : Self) → Good (meaning s) };
 }

@@ -1,10 +1,11 @@
 -- A list filled from its front, one number after the other.
-use Rattle.std.proofs.Common.{◌≡◌, ℕ, ◌+◌, ◌<◌, ◌≤◌, Bool, true, false, not, ltb, leb, List, [], ◌∷◌, ◌++◌, map, length, get_or, take, drop, set, ℤ, pos, Ok, sym, ap, ◌∙◌, append_assoc, arith}
+use Rattle.std.proofs.Common.{◌≡◌, ℕ, ◌+◌, ◌<◌, ◌≤◌, not, ltb, leb, List, [], ◌∷◌, ◌++◌, map, length, get_or, take, drop, set, ℤ, pos, Ok, Err, refl, sym, ap, ◌∙◌, append_assoc, arith}
 use Rattle.std.proofs.lemmas.List.{map-set, drop_more, set_at, map_more, length-map, length-take-le, take_all}
 use Rattle.std.proofs.lemmas.List.Sums.{count_by_more_yes, count_by_more_no}
-use Rattle.std.proofs.lemmas.Bool.{cond-false, le-ltb, not_from_true, not_from_false}
+use Rattle.std.proofs.lemmas.Bool.{cond-true, cond-false, le-ltb, lt-ltb, le-leb, lt-leb, not_from_true, not_from_false}
+use Rattle.kernels.specs.declared.length.LengthFault.TheVariants.{Rows}
 use Rattle.kernels.specs.declared.length.Unit.{Unit}
-use Rattle.kernels.specs.Lengths.{in_unit, numbers_in, over_in, answered, filled}
+use Rattle.kernels.specs.Lengths.{in_unit, numbers_in, over_in, Fills}
 
 pub one_more : {X : Type 0} (f : ℕ → ℤ) (number : X → ℤ) (ls : List ℕ) (start : List ℤ) (out : List X) (i : ℕ) (x : X)
     → map number out ≡ map f (take i ls) ++ drop i start → i < length ls → length ls ≤ length start → number x ≡ f (get_or ls i 0)
@@ -21,21 +22,39 @@ one_more f number ls start out i x e h l q =
     ∙ ap (λ (zs : List ℤ). zs ++ drop (i + 1) start) (sym (map_more f ls i 0 h))
 
 -- whether one length more is counted
-pub over_more : (u : Unit) (c : ℕ) (ls : List ℕ) (i : ℕ) (b : Bool) → i < length ls → b ≡ leb (in_unit u (get_or ls i 0)) c → b ≡ false
-    → over_in u c (take (i + 1) ls) ≡ over_in u c (take i ls) + 1
-over_more u c ls i b h e q = count_by_more_yes (λ (n : ℕ). not (leb (in_unit u n) c)) ls i 0 h (not_from_false _ (sym e ∙ q))
+pub over_more : (u : Unit) (c : ℕ) (ls : List ℕ) (i : ℕ) → i < length ls → c < in_unit u (get_or ls i 0) → over_in u c (take (i + 1) ls) ≡ over_in u c (take i ls) + 1
+over_more u c ls i h l = count_by_more_yes (λ (n : ℕ). not (leb (in_unit u n) c)) ls i 0 h (not_from_false _ (lt-leb _ _ l))
 
-pub over_same : (u : Unit) (c : ℕ) (ls : List ℕ) (i : ℕ) (b : Bool) → i < length ls → b ≡ leb (in_unit u (get_or ls i 0)) c → b ≡ true
-    → over_in u c (take (i + 1) ls) ≡ over_in u c (take i ls)
-over_same u c ls i b h e q = count_by_more_no (λ (n : ℕ). not (leb (in_unit u n) c)) ls i 0 h (not_from_true _ (sym e ∙ q))
+pub over_same : (u : Unit) (c : ℕ) (ls : List ℕ) (i : ℕ) → i < length ls → in_unit u (get_or ls i 0) ≤ c → over_in u c (take (i + 1) ls) ≡ over_in u c (take i ls)
+over_same u c ls i h l = count_by_more_no (λ (n : ℕ). not (leb (in_unit u n) c)) ls i 0 h (not_from_true _ (le-leb _ _ l))
 
-pub answered_all : (u : Unit) (c : ℕ) (ls : List ℕ) (places i over : ℕ) → length ls ≤ places → length ls ≤ i → over ≡ over_in u c (take i ls) → Ok over ≡ answered u c ls places
-answered_all u c ls places i over h l e =
-    ap Ok (e ∙ ap (over_in u c) (take_all i ls l)) ∙ sym (cond-false (ltb places (length ls)) _ _ (le-ltb places (length ls) h))
+-- the first i rows are written, and `over` of them counted
+pub record Filling {X : Type 0} (u : Unit) (number : X → ℤ) (c : ℕ) (ls : List ℕ) (old new : List X) (i over : ℕ) : Type 0 where
+  pub written : map number new ≡ numbers_in u c (take i ls) ++ drop i (map number old)
+  pub counted : over ≡ over_in u c (take i ls)
+  pub few : over ≤ i
+  pub within : i ≤ length ls
 
-pub filled_all : (u : Unit) (c : ℕ) (ls : List ℕ) (start out : List ℤ) (i : ℕ) → length ls ≤ length start → i ≡ length ls
-    → out ≡ numbers_in u c (take i ls) ++ drop i start → out ≡ filled u c ls start
-filled_all u c ls start out i h e q =
-    q ∙ ap (λ (n : ℕ). numbers_in u c (take n ls) ++ drop n start) e
-    ∙ ap (λ (zs : List ℕ). numbers_in u c zs ++ drop (length ls) start) (take_all (length ls) ls (omega arith))
-    ∙ sym (cond-false (ltb (length start) (length ls)) _ _ (le-ltb (length start) (length ls) h))
+-- every row is written
+pub filled_all : {X : Type 0} (u : Unit) (number : X → ℤ) (c : ℕ) (ls : List ℕ) (old new : List X) (i over : ℕ) → length ls ≤ length old → length ls ≤ i
+    → Filling u number c ls old new i over → Fills u number c ls old new (Ok over)
+filled_all u number c ls old new i over h l f =
+    let e : i ≡ length ls = omega (arith, l, f.within) in
+    let all = take_all (length ls) ls (omega arith) in
+    let n = length-map old number in
+    record {
+      answer = ap Ok (f.counted ∙ ap (λ (k : ℕ). over_in u c (take k ls)) e ∙ ap (over_in u c) all)
+          ∙ sym (cond-false (ltb (length old) (length ls)) _ _ (le-ltb (length old) (length ls) h));
+      after = f.written ∙ ap (λ (k : ℕ). numbers_in u c (take k ls) ++ drop k (map number old)) e
+          ∙ ap (λ (zs : List ℕ). numbers_in u c zs ++ drop (length ls) (map number old)) all
+          ∙ sym (cond-false (ltb (length (map number old)) (length ls)) _ _ (le-ltb _ _ (omega (arith, n, h))));
+      kept = λ l. absurd (omega (arith, h, l));
+    }
+
+-- no row is written where there are too many
+pub filled_none : {X : Type 0} (u : Unit) (number : X → ℤ) (c : ℕ) (ls : List ℕ) (old : List X) → length old < length ls → Fills u number c ls old old (Err Rows)
+filled_none u number c ls old h = record {
+  answer = sym (cond-true (ltb (length old) (length ls)) _ _ (lt-ltb _ _ h));
+  after = sym (cond-true (ltb (length (map number old)) (length ls)) _ _ (lt-ltb _ _ (omega (arith, length-map old number, h))));
+  kept = λ _. refl;
+}

@@ -1,5 +1,5 @@
 -- Lengths as numbers in a signed width.
-use Rattle.std.specs.Prelude.{ℕ, ◌*◌, cond, not, List, ◌++◌, map, length, drop, ℤ, Ok, Err, count_by, Result, nat_le, nat_lt}
+use Rattle.std.specs.Prelude.{◌≡◌, ℕ, ◌*◌, ◌<◌, cond, not, List, ◌++◌, map, length, drop, ℤ, Ok, Err, count_by, Result, nat_le, nat_lt}
 use Rattle.encoding.specs.Offsets.{wrapped}
 use Rattle.kernels.specs.declared.length.LengthFault.{LengthFault}
 use Rattle.kernels.specs.declared.length.LengthFault.TheVariants.{Rows}
@@ -30,3 +30,9 @@ answered u c ls places = cond (nat_lt places (length ls)) (Err Rows) (Ok (over_i
 -- the list after the call: the numbers in front, and every place past the rows as it was; a list too short is as it was
 abbrev pub filled : Unit → ℕ → List ℕ → List ℤ → List ℤ
 filled u c ls out = cond (nat_lt (length out) (length ls)) out (numbers_in u c ls ++ drop (length ls) out)
+
+-- the list `old`, seen by its numbers in the width up to c, becomes `new` and r is answered; a list too short stays whatever it holds
+pub record Fills {X : Type 0} (u : Unit) (number : X → ℤ) (c : ℕ) (ls : List ℕ) (old new : List X) (r : Result ℕ LengthFault) : Type 0 where
+  pub answer : r ≡ answered u c ls (length old)
+  pub after : map number new ≡ filled u c ls (map number old)
+  pub kept : length old < length ls → new ≡ old

@@ -1,8 +1,7 @@
 // Lengths of rows, in bytes (or elements) and in bits.
-ghost use Rattle.std.specs.Prelude.{◌≡◌, ℕ, ◌<◌, ◌≤◌, true, cond, map, length as size, nat_le};
-ghost use Rattle.encoding.specs.Offsets.{wrapped};
+ghost use Rattle.std.specs.Prelude.{◌≡◌};
 ghost use Rattle.kernels.specs.Examples.{ExamplesHold};
-ghost use Rattle.kernels.specs.Lengths.{in_unit, answered, filled};
+ghost use Rattle.kernels.specs.Lengths.{in_unit, Fills};
 
 use columns::measure::Measure;
 use encoding::bits;
@@ -22,13 +21,15 @@ pub enum LengthFault {
     Rows,
 }
 
-// A length in a unit and a width, and whether it fits there.
-fn in_width<O: Offset>(unit: Unit, n: u64) -> (O, bool)
-    ensures { (O.Offset.number result.0 ≡ wrapped O.Offset.ceiling (in_unit unit n)) × (result.1 ≡ nat_le (in_unit unit n) O.Offset.ceiling) }
-{
-    match unit {
-        Unit::Bytes => (O::wrapping(n as u128), n <= O::max_value()),
-        Unit::Bits => (bits::wrapped_bits(n), bits::fits::<O>(n)),
+impl Unit {
+    // A length in bytes, in this unit, exactly.
+    fn exact(self, bytes: u64) -> u128
+        ensures { result ≡ in_unit self bytes }
+    {
+        match self {
+            Unit::Bytes => u128::from(bytes),
+            Unit::Bits => bits::exact(bytes),
+        }
     }
 }
 
@@ -38,22 +39,20 @@ pub fn fill<M: Measure, O: Offset>(
     unit: Unit,
     out: &mut [O],
 ) -> Result<usize, LengthFault>
-    ensures answer { result ≡ answered unit O.Offset.ceiling (M.Measure.lengths column.now) (size out.old) }
-    ensures after { map O.Offset.number out.new ≡ filled unit O.Offset.ceiling (M.Measure.lengths column.now) (map O.Offset.number out.old) }
-    ensures kept { size out.old < size (M.Measure.lengths column.now) → out.new ≡ out.old }
+    ensures { Fills unit O.Offset.number O.Offset.ceiling (M.Measure.lengths column.now) out.old out.new result }
 {
-    let rows = column.len();
-    if rows > out.len() {
+    if column.len() > out.len() {
         return Err(LengthFault::Rows);
     }
+    let ceiling = u128::from(O::max_value());
     let mut over = 0;
-    for i in 0..rows {
-        let Some(n) = column.row_len(i) else {
-            return Ok(over);
+    for (i, place) in out.iter_mut().enumerate() {
+        let Some(bytes) = column.row_len(i) else {
+            break;
         };
-        let (number, fits) = in_width(unit, n);
-        out[i] = number;
-        if !fits {
+        let exact = unit.exact(bytes);
+        *place = O::wrapping(exact);
+        if exact > ceiling {
             over += 1;
         }
     }
@@ -64,9 +63,7 @@ pub fn fill<M: Measure, O: Offset>(
 /// Refuses by 12, with nothing written, where the list is shorter than the rows. Answers how many lengths do not fit the
 /// list's width and are wrapped. Example: the rows "Tür" and "ab" give 4 and 2.
 pub fn length<M: Measure, O: Offset>(column: &M, out: &mut [O]) -> Result<usize, LengthFault>
-    ensures answer { result ≡ answered Unit.Bytes O.Offset.ceiling (M.Measure.lengths column.now) (size out.old) }
-    ensures after { map O.Offset.number out.new ≡ filled Unit.Bytes O.Offset.ceiling (M.Measure.lengths column.now) (map O.Offset.number out.old) }
-    ensures kept { size out.old < size (M.Measure.lengths column.now) → out.new ≡ out.old }
+    ensures { Fills Unit.Bytes O.Offset.number O.Offset.ceiling (M.Measure.lengths column.now) out.old out.new result }
 {
     fill(column, Unit::Bytes, out)
 }
@@ -74,9 +71,7 @@ pub fn length<M: Measure, O: Offset>(column: &M, out: &mut [O]) -> Result<usize,
 /// Writes eight times the length of every row, wrapped in the list's width, and answers how many rows do not fit it,
 /// null rows counted too; otherwise as `length`. Example: 268,435,456 bytes in 32 bits give -2,147,483,648, counted.
 pub fn bit_length<M: Measure, O: Offset>(column: &M, out: &mut [O]) -> Result<usize, LengthFault>
-    ensures answer { result ≡ answered Unit.Bits O.Offset.ceiling (M.Measure.lengths column.now) (size out.old) }
-    ensures after { map O.Offset.number out.new ≡ filled Unit.Bits O.Offset.ceiling (M.Measure.lengths column.now) (map O.Offset.number out.old) }
-    ensures kept { size out.old < size (M.Measure.lengths column.now) → out.new ≡ out.old }
+    ensures fills { Fills Unit.Bits O.Offset.number O.Offset.ceiling (M.Measure.lengths column.now) out.old out.new result }
     ensures examples { ExamplesHold }
 {
     fill(column, Unit::Bits, out)

@@ -2,7 +2,7 @@
 use Rattle.std.specs.Prelude.{ℕ, ◌<◌, ◌≤◌, Bool, cond, List, ◌++◌, map, length, drop, ℤ, pos, Some, None, Ok, Err, Option, Result, nat_lt, slice_index}
 use Rattle.encoding.specs.Offsets.{wide_of}
 use Rattle.columns.specs.OffsetColumn.{lists_of}
-use Rattle.columns.specs.Shown.{lengths_shown}
+use Rattle.columns.specs.Lists.{lengths_of}
 use Rattle.kernels.specs.Lengths.{numbers_in, over_in}
 use Rattle.kernels.specs.declared.length.LengthFault.TheVariants.{Rows}
 use Rattle.kernels.specs.declared.length.Unit as unit
@@ -18,7 +18,7 @@ pub record Measured : Type 0 where
 
 -- nothing where the operation lacks the kind
 abbrev pub measured : Column → Option Measured
-measured (Offset c) = Some (record { wide = wide_of (lists_of c).offsets; lengths = lengths_shown (lists_of c) })
+measured (Offset c) = Some (record { wide = wide_of (lists_of c).offsets; lengths = lengths_of (lists_of c) })
 measured (Unbuilt k) = None
 
 -- the greatest number of the width

@@ -43,11 +43,7 @@ pub fn measure(
     ensures low { Low (measured column.now) }
 {
     match column {
-        Column::Offset(c) => {
-            let is_wide = c.is_wide();
-            let over = choose(c, unit, is_wide, narrow, wide)?;
-            Ok(over)
-        }
+        Column::Offset(c) => Ok(choose(c, unit, c.is_wide(), narrow, wide)?),
         Column::Unbuilt(_) => Err(KindFault::Lacks),
     }
 }

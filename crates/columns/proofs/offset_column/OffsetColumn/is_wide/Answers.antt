@@ -1,13 +1,9 @@
-use Rattle.std.proofs.Common.{arith}
-use Rattle.columns.specs.OffsetColumn.{lists_of}
-use Rattle.columns.proofs.Showing.{count_lengths, length_in, length_bytes_shown}
+use Rattle.std.proofs.Common.{◌<◌, arith}
+use Rattle.columns.specs.Meanings.{count_lengths, length_in, length_row}
 use Rattle.columns.proofs.offset_column.OffsetColumn.is_wide.Goals as goal
 
-pub returns : goal.returns
-returns c =
-    let l = lists_of c.args.self.now in
-    record {
-      value = c.is_wide.ensures;
-      low = λ i h.
-          omega (arith, length_in l i (omega (arith, count_lengths l, h)), length_bytes_shown l.offsets l.content i);
-    }
+pub returns-clause-low : goal.returns-clause-low
+returns-clause-low c i h =
+    let s = c.args.self.now in
+    let k : i < s.lists.rows = omega (arith, count_lengths s.lists, h) in
+    omega (arith, length_in s.lists i k, length_row s.lists i s.shaped s.ordered k)
