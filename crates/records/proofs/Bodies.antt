@@ -3,7 +3,10 @@ use Rattle.std.proofs.Common.{◌≡◌, ℕ, ◌<◌, Bool, true, false, List, 
 use Rattle.std.proofs.lemmas.List.{nil_from_length, take_at, drop_at}
 use Rattle.records.specs.declared.record.Record.{Record}
 use Rattle.records.specs.declared.record.Record.TheVariants.{Column, Cut, CutByCharacter, Join, Length, BitLength}
-use Rattle.records.specs.Layout.{Reads, mark_of, LengthPart, ColumnBody, CutBody, JoinBody, kind_of, Fields, GivenRecord, given_of}
+use Rattle.records.specs.declared.record.RecordKind.{RecordKind}
+use Rattle.records.specs.declared.record.RecordKind.TheVariants as kind
+use Rattle.records.specs.Kinds.{kind_of}
+use Rattle.records.specs.Layout.{Reads, mark_of, LengthPart, ColumnBody, CutBody, JoinBody, Fields, GivenRecord, given_of}
 use Rattle.records.specs.Layout.GivenRecord.{given_column, given_cut, given_cut_by_character, given_join, given_length, given_bit_length}
 use Rattle.records.proofs.Little.{reads_same}
 
@@ -45,94 +48,25 @@ cut_lengthless r q k d s l h =
 pub join_rightless : {b t : List ℕ} {c : ℕ} → Reads 2 c b t → ((y : ℕ) → Reads 2 y t [] → ⊥) → (x y : ℕ) → JoinBody x y b → ⊥
 join_rightless r k x y h = k y (subst (λ (v : List ℕ). Reads 2 y v []) (reads_same h.1 r).1 h.2)
 
--- P of each body b of the kind k
-abbrev Each : (GivenRecord → Type 0) → ℕ → List ℕ → Type 0
-Each P k b =
-    (k ≡ 1 → (f rows : List ℕ) → ColumnBody f rows b → P (given_column f rows))
-    × (k ≡ 2 → (c : ℕ) (s : ℤ) (l : Option ℕ) → CutBody c s l b → P (given_cut c s l))
-    × (k ≡ 3 → (c : ℕ) (s : ℤ) (l : Option ℕ) → CutBody c s l b → P (given_cut_by_character c s l))
-    × (k ≡ 4 → (x y : ℕ) → JoinBody x y b → P (given_join x y))
-    × (k ≡ 5 → (x : ℕ) → Reads 2 x b [] → P (given_length x))
-    × (k ≡ 6 → (x : ℕ) → Reads 2 x b [] → P (given_bit_length x))
-
-each_body : (P : GivenRecord → Type 0) (k : ℕ) (b : List ℕ) → Each P k b → (x : Record) → kind_of x ≡ k → Fields x b → P (given_of x)
-each_body P k b z (Column f rows) e h = z.0 (sym e) f.now rows.now h
-each_body P k b z (Cut c s l) e h = z.1 (sym e) c s l h
-each_body P k b z (CutByCharacter c s l) e h = z.2 (sym e) c s l h
-each_body P k b z (Join x y) e h = z.3 (sym e) x y h
-each_body P k b z (Length c) e h = z.4 (sym e) c h
-each_body P k b z (BitLength c) e h = z.5 (sym e) c h
-
 -- P of each record of the kind k whose body is b
-abbrev pub OfKind : (GivenRecord → Type 0) → ℕ → List ℕ → Type 0
-OfKind P k b = (x : Record) → kind_of x ≡ k → Fields x b → P (given_of x)
+abbrev pub Each : (GivenRecord → Type 0) → RecordKind → List ℕ → Type 0
+Each P kind.Column b = (f rows : List ℕ) → ColumnBody f rows b → P (given_column f rows)
+Each P kind.Cut b = (c : ℕ) (s : ℤ) (l : Option ℕ) → CutBody c s l b → P (given_cut c s l)
+Each P kind.CutByCharacter b = (c : ℕ) (s : ℤ) (l : Option ℕ) → CutBody c s l b → P (given_cut_by_character c s l)
+Each P kind.Join b = (x y : ℕ) → JoinBody x y b → P (given_join x y)
+Each P kind.Length b = (x : ℕ) → Reads 2 x b [] → P (given_length x)
+Each P kind.BitLength b = (x : ℕ) → Reads 2 x b [] → P (given_bit_length x)
 
--- of one kind, the bodies of that kind are all that there are
-of_column : (P : GivenRecord → Type 0) (k : ℕ) (b : List ℕ) → k ≡ 1 → ((f rows : List ℕ) → ColumnBody f rows b → P (given_column f rows)) → OfKind P k b
-of_column P k b e u =
-    each_body P k b (
-      λ p. u,
-      λ p. absurd (omega arith),
-      λ p. absurd (omega arith),
-      λ p. absurd (omega arith),
-      λ p. absurd (omega arith),
-      λ p. absurd (omega arith),
-    )
+each_own : (P : GivenRecord → Type 0) (b : List ℕ) (x : Record) → Each P (kind_of x) b → Fields x b → P (given_of x)
+each_own P b (Column f rows) z h = z f.now rows.now h
+each_own P b (Cut c s l) z h = z c s l h
+each_own P b (CutByCharacter c s l) z h = z c s l h
+each_own P b (Join x y) z h = z x y h
+each_own P b (Length c) z h = z c h
+each_own P b (BitLength c) z h = z c h
 
-pub of_cut : (P : GivenRecord → Type 0) (k : ℕ) (b : List ℕ) → k ≡ 2 → ((c : ℕ) (s : ℤ) (l : Option ℕ) → CutBody c s l b → P (given_cut c s l)) → OfKind P k b
-of_cut P k b e u =
-    each_body P k b (
-      λ p. absurd (omega arith),
-      λ p. u,
-      λ p. absurd (omega arith),
-      λ p. absurd (omega arith),
-      λ p. absurd (omega arith),
-      λ p. absurd (omega arith),
-    )
-
-pub of_cut_by_character : (P : GivenRecord → Type 0) (k : ℕ) (b : List ℕ) → k ≡ 3 → ((c : ℕ) (s : ℤ) (l : Option ℕ) → CutBody c s l b → P (given_cut_by_character c s l)) → OfKind P k b
-of_cut_by_character P k b e u =
-    each_body P k b (
-      λ p. absurd (omega arith),
-      λ p. absurd (omega arith),
-      λ p. u,
-      λ p. absurd (omega arith),
-      λ p. absurd (omega arith),
-      λ p. absurd (omega arith),
-    )
-
-pub of_join : (P : GivenRecord → Type 0) (k : ℕ) (b : List ℕ) → k ≡ 4 → ((x y : ℕ) → JoinBody x y b → P (given_join x y)) → OfKind P k b
-of_join P k b e u =
-    each_body P k b (
-      λ p. absurd (omega arith),
-      λ p. absurd (omega arith),
-      λ p. absurd (omega arith),
-      λ p. u,
-      λ p. absurd (omega arith),
-      λ p. absurd (omega arith),
-    )
-
-pub of_length : (P : GivenRecord → Type 0) (k : ℕ) (b : List ℕ) → k ≡ 5 → ((x : ℕ) → Reads 2 x b [] → P (given_length x)) → OfKind P k b
-of_length P k b e u =
-    each_body P k b (
-      λ p. absurd (omega arith),
-      λ p. absurd (omega arith),
-      λ p. absurd (omega arith),
-      λ p. absurd (omega arith),
-      λ p. u,
-      λ p. absurd (omega arith),
-    )
-
-pub of_bit_length : (P : GivenRecord → Type 0) (k : ℕ) (b : List ℕ) → k ≡ 6 → ((x : ℕ) → Reads 2 x b [] → P (given_bit_length x)) → OfKind P k b
-of_bit_length P k b e u =
-    each_body P k b (
-      λ p. absurd (omega arith),
-      λ p. absurd (omega arith),
-      λ p. absurd (omega arith),
-      λ p. absurd (omega arith),
-      λ p. absurd (omega arith),
-      λ p. u,
-    )
+pub each_body : (P : GivenRecord → Type 0) (k : RecordKind) (b : List ℕ) → Each P k b → (x : Record) → kind_of x ≡ k → Fields x b → P (given_of x)
+each_body P k b z x e = each_own P b x (subst (λ j. Each P j b) (sym e) z)
 
 -- a body gives one record of its kind
 length_same : (b : List ℕ) (l m : Option ℕ) → LengthPart l b → LengthPart m b → l ≡ m
@@ -164,18 +98,18 @@ join_same b x y z w h k =
 
 pub fields_same : (b : List ℕ) (x y : Record) → kind_of x ≡ kind_of y → Fields x b → Fields y b → given_of x ≡ given_of y
 fields_same b (Column f rows) y e h =
-    of_column (λ o. given_column f.now rows.now ≡ o) 1 b refl
+    each_body (λ o. given_column f.now rows.now ≡ o) kind.Column b
     (λ g tail q. let r = column_same b f.now rows.now g tail h q in λ i. given_column (r.0 i) (r.1 i)) y (sym e)
 fields_same b (Cut c s l) y e h =
-    of_cut (λ o. given_cut c s l ≡ o) 2 b refl
+    each_body (λ o. given_cut c s l ≡ o) kind.Cut b
     (λ d t m q. let r = cut_same b c d s t l m h q in λ i. given_cut (r.0 i) (r.1 i) (r.2 i)) y (sym e)
 fields_same b (CutByCharacter c s l) y e h =
-    of_cut_by_character (λ o. given_cut_by_character c s l ≡ o) 3 b refl
+    each_body (λ o. given_cut_by_character c s l ≡ o) kind.CutByCharacter b
     (λ d t m q. let r = cut_same b c d s t l m h q in λ i. given_cut_by_character (r.0 i) (r.1 i) (r.2 i)) y (sym e)
 fields_same b (Join x z) y e h =
-    of_join (λ o. given_join x z ≡ o) 4 b refl
+    each_body (λ o. given_join x z ≡ o) kind.Join b
     (λ u w q. let r = join_same b x z u w h q in λ i. given_join (r.0 i) (r.1 i)) y (sym e)
 fields_same b (Length c) y e h =
-    of_length (λ o. given_length c ≡ o) 5 b refl (λ d q. ap given_length (reads_same h q).0) y (sym e)
+    each_body (λ o. given_length c ≡ o) kind.Length b (λ d q. ap given_length (reads_same h q).0) y (sym e)
 fields_same b (BitLength c) y e h =
-    of_bit_length (λ o. given_bit_length c ≡ o) 6 b refl (λ d q. ap given_bit_length (reads_same h q).0) y (sym e)
+    each_body (λ o. given_bit_length c ≡ o) kind.BitLength b (λ d q. ap given_bit_length (reads_same h q).0) y (sym e)

@@ -1,4 +1,5 @@
 pub mod Little
+mod Numbers
 pub mod Bodies
 pub mod Records
 pub mod RowParts
