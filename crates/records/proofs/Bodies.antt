@@ -1,6 +1,5 @@
 -- What the bodies of records hold, and when there is none.
-use Rattle.std.proofs.Common.{◌≡◌, ℕ, ◌<◌, Bool, true, false, List, [], ◌∷◌, ◌++◌, length, get_or, take, drop, ℤ, Some, None, Option, sym, refl, ap, ◌∙◌, subst, arith, length-append, take-append-drop, w64, to_z}
-use Rattle.std.proofs.lemmas.List.{nil_from_length, take_at, drop_at}
+use Rattle.std.proofs.Common.{◌≡◌, ℕ, Bool, true, false, List, [], ◌∷◌, get_or, drop, ℤ, Some, None, Option, sym, refl, ap, ◌∙◌, subst, arith, w64, to_z}
 use Rattle.records.specs.declared.record.Record.{Record}
 use Rattle.records.specs.declared.record.Record.TheVariants.{Column, Cut, CutByCharacter, Join, Length, BitLength}
 use Rattle.records.specs.declared.record.RecordKind.{RecordKind}
@@ -8,7 +7,7 @@ use Rattle.records.specs.declared.record.RecordKind.TheVariants as kind
 use Rattle.records.specs.Kinds.{kind_of}
 use Rattle.records.specs.Layout.{Reads, mark_of, LengthPart, ColumnBody, CutBody, JoinBody, Fields, GivenRecord, given_of}
 use Rattle.records.specs.Layout.GivenRecord.{given_column, given_cut, given_cut_by_character, given_join, given_length, given_bit_length}
-use Rattle.records.proofs.Little.{reads_same}
+use Rattle.records.proofs.Little.{parts_same, reads_at, reads_same}
 
 -- no mark: no length, nor the sign that it is left out
 pub length_unmarked : (b : List ℕ) → ((v : Bool) (rest : List ℕ) → b ≡ mark_of v ∷ rest → ⊥) → (l : Option ℕ) → LengthPart l b → ⊥
@@ -18,35 +17,7 @@ length_unmarked b k (Some n) h = k true h.0 h.1
 -- a mark for a length, and no length
 pub length_missing : (b t : List ℕ) → b ≡ 1 ∷ t → ((x : ℕ) → Reads 8 x t [] → ⊥) → (l : Option ℕ) → LengthPart l b → ⊥
 length_missing b t e k None h = omega (arith, ap (λ (s : List ℕ). get_or s 0 0) (sym e ∙ h))
-length_missing b t e k (Some n) h = k n (subst (λ (s : List ℕ). Reads 8 n s []) (ap (drop 1) (sym h.1 ∙ e)) h.2)
-
--- a mark for no length, and nothing after it
-pub length_left_out : (b t : List ℕ) → b ≡ 0 ∷ t → length t ≡ 0 → LengthPart None b
-length_left_out b t e h = e ∙ ap (λ (s : List ℕ). 0 ∷ s) (nil_from_length t h)
-
--- a format of n bytes and the rows after it
-pub column_made : (b t f rows : List ℕ) (n : ℕ) → b ≡ n ∷ t → f ≡ take n t → rows ≡ drop n t → length f ≡ n → ColumnBody f rows b
-column_made b t f rows n e p q l = let j = take-append-drop n t in cc
-
--- too few bytes for a format of n bytes
-pub column_short : (b t : List ℕ) (n : ℕ) → b ≡ n ∷ t → length t < n → (f rows : List ℕ) → ColumnBody f rows b → ⊥
-column_short b t n e h f rows k =
-    omega (arith, ap length (sym e ∙ k), ap (λ (s : List ℕ). get_or s 0 0) (sym e ∙ k), length-append f rows)
-
--- no number where the start stands
-pub cut_startless : {b t : List ℕ} {c : ℕ} → Reads 2 c b t → ((x : ℕ) (u : List ℕ) → Reads 8 x t u → ⊥) → (d : ℕ) (s : ℤ) (l : Option ℕ) → CutBody d s l b → ⊥
-cut_startless r k d s l h =
-    k h.2 h.1 (subst (λ (v : List ℕ). Reads 8 h.2 v h.1) (reads_same h.3 r).1 h.4)
-
--- no length after the start
-pub cut_lengthless : {b t u : List ℕ} {c x : ℕ} → Reads 2 c b t → Reads 8 x t u → ((l : Option ℕ) → LengthPart l u → ⊥) → (d : ℕ) (s : ℤ) (l : Option ℕ) → CutBody d s l b → ⊥
-cut_lengthless r q k d s l h =
-    let j = subst (λ (v : List ℕ). Reads 8 h.2 v h.1) (reads_same h.3 r).1 h.4 in
-    k l (subst (LengthPart l) (reads_same j q).1 h.6)
-
--- no number where the second column stands
-pub join_rightless : {b t : List ℕ} {c : ℕ} → Reads 2 c b t → ((y : ℕ) → Reads 2 y t [] → ⊥) → (x y : ℕ) → JoinBody x y b → ⊥
-join_rightless r k x y h = k y (subst (λ (v : List ℕ). Reads 2 y v []) (reads_same h.1 r).1 h.2)
+length_missing b t e k (Some n) h = k n (reads_at (ap (drop 1) (sym h.1 ∙ e)) h.2)
 
 -- P of each record of the kind k whose body is b
 abbrev pub Each : (GivenRecord → Type 0) → RecordKind → List ℕ → Type 0
@@ -74,27 +45,22 @@ length_same b None None h k = refl
 length_same b None (Some m) h k = absurd (omega (arith, ap (λ (s : List ℕ). get_or s 0 0) (sym h ∙ k.1)))
 length_same b (Some l) None h k = absurd (omega (arith, ap (λ (s : List ℕ). get_or s 0 0) (sym h.1 ∙ k)))
 length_same b (Some l) (Some m) h k =
-    ap (λ (n : ℕ). Some n) (reads_same (subst (λ (s : List ℕ). Reads 8 l s []) (ap (drop 1) (sym h.1 ∙ k.1)) h.2) k.2).0
+    ap (λ (n : ℕ). Some n) (reads_same (reads_at (ap (drop 1) (sym h.1 ∙ k.1)) h.2) k.2).0
 
 column_same : (b f rows g tail : List ℕ) → ColumnBody f rows b → ColumnBody g tail b → (f ≡ g) × (rows ≡ tail)
 column_same b f rows g tail h k =
-    let e = sym h ∙ k in
-    let l : length g ≡ length f = sym (ap (λ (s : List ℕ). get_or s 0 0) e) in
-    let t : f ++ rows ≡ g ++ tail = ap (drop 1) e in (
-      sym (take_at f rows (length f) refl) ∙ ap (take (length f)) t ∙ take_at g tail (length f) l,
-      sym (drop_at f rows (length f) refl) ∙ ap (drop (length f)) t ∙ drop_at g tail (length f) l,
-    )
+    let e = sym h ∙ k in parts_same f g rows tail (ap (drop 1) e) (ap (λ (s : List ℕ). get_or s 0 0) e)
 
 cut_same : (b : List ℕ) (c d : ℕ) (s t : ℤ) (l m : Option ℕ) → CutBody c s l b → CutBody d t m b → (c ≡ d) × (s ≡ t) × (l ≡ m)
 cut_same b c d s t l m h k =
     let i = reads_same h.3 k.3 in
-    let j = reads_same (subst (λ (v : List ℕ). Reads 8 h.2 v h.1) i.1 h.4) k.4 in
+    let j = reads_same (reads_at i.1 h.4) k.4 in
     (i.0, sym h.5 ∙ ap (to_z w64) j.0 ∙ k.5, length_same k.1 l m (subst (LengthPart l) j.1 h.6) k.6)
 
 join_same : (b : List ℕ) (x y z w : ℕ) → JoinBody x y b → JoinBody z w b → (x ≡ z) × (y ≡ w)
 join_same b x y z w h k =
     let i = reads_same h.1 k.1 in
-    (i.0, (reads_same (subst (λ (v : List ℕ). Reads 2 y v []) i.1 h.2) k.2).0)
+    (i.0, (reads_same (reads_at i.1 h.2) k.2).0)
 
 pub fields_same : (b : List ℕ) (x y : Record) → kind_of x ≡ kind_of y → Fields x b → Fields y b → given_of x ≡ given_of y
 fields_same b (Column f rows) y e h =

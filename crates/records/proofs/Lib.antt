@@ -1,5 +1,4 @@
 pub mod Little
-mod Numbers
 pub mod Bodies
 pub mod Records
 pub mod RowParts
