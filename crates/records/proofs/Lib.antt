@@ -3,4 +3,3 @@ pub mod Bodies
 pub mod Records
 pub mod RowParts
 pub mod Widths
-pub mod Letters

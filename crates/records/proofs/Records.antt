@@ -1,50 +1,32 @@
 -- A record at the front of a file: its parts, and when there is none.
-use Rattle.std.proofs.Common.{◌≡◌, ℕ, ◌+◌, ◌-◌, ◌<◌, ◌≤◌, List, ◌++◌, length, take, drop, sym, refl, ap, ◌∙◌, subst, arith, length-append, take-append-drop}
-use Rattle.std.proofs.lemmas.List.{take_at, drop_at}
+use Rattle.std.proofs.Common.{◌≡◌, ℕ, ◌+◌, ◌-◌, ◌<◌, List, ◌++◌, length, take, sym, ap, ◌∙◌, subst, arith, length-append}
+use Rattle.std.proofs.lemmas.List.{take_at}
 use Rattle.records.specs.declared.record.Record.{Record}
-use Rattle.records.specs.Layout.{Reads, kind_of, Fields, Stands, given_of}
+use Rattle.records.specs.declared.record.RecordKind.{RecordKind}
+use Rattle.records.specs.Kinds.{number_of, kind_of}
+use Rattle.records.specs.Layout.{Reads, Fields, Stands, given_of}
 use Rattle.records.proofs.Bodies.{fields_same}
-use Rattle.records.proofs.Little.{reads_same, reads_fits}
+use Rattle.records.proofs.Little.{parts_same, reads_at, reads_same, reads_fits}
+
+number_same : (j k : RecordKind) → number_of j ≡ number_of k → j ≡ k
+number_same j k e = grind arith
+
+-- after its size a record has its kind
+pub kind_after : {file t rest : List ℕ} {n : ℕ} (x : Record) → Reads 4 n file t → (h : Stands file x rest) → Reads 2 (number_of (kind_of x)) t (h.0 ++ rest)
+kind_after x r h = reads_at (reads_same h.2 r).1 h.3
 
 -- the numbers that stand before a body are those of the record
 pub stands_parts : {file t u rest : List ℕ} {n k : ℕ} (x : Record) → Reads 4 n file t → Reads 2 k t u → (h : Stands file x rest)
-    → (2 + length h.0 ≡ n) × (kind_of x ≡ k) × (h.0 ++ rest ≡ u)
-stands_parts {rest = rest} x r q h =
-    let i = reads_same h.2 r in
-    let j = reads_same (subst (λ (s : List ℕ). Reads 2 (kind_of x) s (h.0 ++ rest)) i.1 h.3) q in (i.0, j.0, j.1)
-
--- no kind after the size
-pub stands_kindless : {file t : List ℕ} {n : ℕ} → Reads 4 n file t → ((k : ℕ) (u : List ℕ) → Reads 2 k t u → ⊥)
-    → (x : Record) (rest : List ℕ) → Stands file x rest → ⊥
-stands_kindless r k x rest h =
-    k (kind_of x) (h.0 ++ rest) (subst (λ (s : List ℕ). Reads 2 (kind_of x) s (h.0 ++ rest)) (reads_same h.2 r).1 h.3)
-
--- fewer bytes than the size says
-pub stands_short : {file t u : List ℕ} {n k : ℕ} → Reads 4 n file t → Reads 2 k t u → length u < n - 2
-    → (x : Record) (rest : List ℕ) → Stands file x rest → ⊥
-stands_short r q l x rest h =
-    let p = stands_parts x r q h in omega (arith, p.0, ap length p.2, length-append h.0 rest)
+    → (2 + length h.0 ≡ n) × (number_of (kind_of x) ≡ k) × (h.0 ++ rest ≡ u)
+stands_parts x r q h = let j = reads_same (kind_after x r h) q in ((reads_same h.2 r).0, j.0, j.1)
 
 -- a body that is none of this kind
-pub stands_bodiless : {file t u body : List ℕ} {n k : ℕ} → Reads 4 n file t → Reads 2 k t u → body ≡ take (n - 2) u
+pub stands_bodiless : {file t u body : List ℕ} {n m : ℕ} {k : RecordKind} → Reads 4 n file t → Reads 2 m t u → number_of k ≡ m → body ≡ take (n - 2) u
     → ((x : Record) → kind_of x ≡ k → Fields x body → ⊥) → (x : Record) (rest : List ℕ) → Stands file x rest → ⊥
-stands_bodiless {u = u} {n = n} r q e z x rest h =
+stands_bodiless {u = u} {n = n} r q i e z x rest h =
     let p = stands_parts x r q h in
     let l : length h.0 ≡ n - 2 = omega (arith, p.0) in
-    z x p.1 (subst (Fields x) (sym (take_at h.0 rest (n - 2) l) ∙ ap (take (n - 2)) p.2 ∙ sym e) h.4)
-
--- a size, a kind and a body in their order are a record
-pub stands_made : {file t u body rest : List ℕ} {n k : ℕ} (x : Record) → Reads 4 n file t → Reads 2 k t u → 2 ≤ n
-    → body ≡ take (n - 2) u → rest ≡ drop (n - 2) u → length body ≡ n - 2 → kind_of x ≡ k → Fields x body → Stands file x rest
-stands_made {file = file} {t = t} {u = u} {body = body} {rest = rest} {n = n} {k = k} x r q h e d l p f =
-    let s : 2 + length body ≡ n = omega arith in
-    let w : body ++ rest ≡ u = (let j = take-append-drop (n - 2) u in cc) in (
-      body,
-      t,
-      subst (λ (m : ℕ). Reads 4 m file t) (sym s) r,
-      subst (λ (v : List ℕ). Reads 2 (kind_of x) t v) (sym w) (subst (λ (m : ℕ). Reads 2 m t u) (sym p) q),
-      f,
-    )
+    z x (number_same _ _ (p.1 ∙ sym i)) (subst (Fields x) (sym (take_at h.0 rest (n - 2) l) ∙ ap (take (n - 2)) p.2 ∙ sym e) h.4)
 
 -- what follows a record is shorter than the file
 pub stands_shorter : {file rest : List ℕ} (x : Record) → Stands file x rest → length rest < length file
@@ -54,8 +36,5 @@ stands_shorter {rest = rest} x h = omega (arith, reads_fits h.2, reads_fits h.3,
 pub stands_same : {file : List ℕ} (x y : Record) (rest tail : List ℕ) → Stands file x rest → Stands file y tail → (given_of x ≡ given_of y) × (rest ≡ tail)
 stands_same x y rest tail h k =
     let p = stands_parts x k.2 k.3 h in
-    let l : length k.0 ≡ length h.0 = omega (arith, p.0) in
-    let b : h.0 ≡ k.0 = sym (take_at h.0 rest (length h.0) refl) ∙ ap (take (length h.0)) p.2 ∙ take_at k.0 tail (length h.0) l in (
-      fields_same k.0 x y p.1 (subst (Fields x) b h.4) k.4,
-      sym (drop_at h.0 rest (length h.0) refl) ∙ ap (drop (length h.0)) p.2 ∙ drop_at k.0 tail (length h.0) l,
-    )
+    let i = parts_same h.0 k.0 rest tail p.2 (omega (arith, p.0)) in
+    (fields_same k.0 x y (number_same _ _ p.1) (subst (Fields x) i.0 h.4) k.4, i.1)

@@ -4,6 +4,7 @@ use Rattle.std.proofs.Common.{to_z}
 use Rattle.std.specs.Int.{w64}
 use Rattle.records.specs.declared.record.Record.{Record}
 use Rattle.records.specs.declared.record.Record.TheVariants.{Column, Cut, CutByCharacter, Join, Length, BitLength}
+use Rattle.records.specs.Kinds.{number_of, kind_of}
 
 -- the number that bytes give, the lowest byte first
 abbrev pub le : List ℕ → ℕ
@@ -36,15 +37,6 @@ CutBody col start len b = (t u : List ℕ) × (x : ℕ) × Reads 2 col b t × Re
 abbrev pub JoinBody : ℕ → ℕ → List ℕ → Type 0
 JoinBody l r b = (t : List ℕ) × Reads 2 l b t × Reads 2 r t []
 
--- the number that stands for a record's kind
-abbrev pub kind_of : Record → ℕ
-kind_of (Column f rows) = 1
-kind_of (Cut c s l) = 2
-kind_of (CutByCharacter c s l) = 3
-kind_of (Join l r) = 4
-kind_of (Length c) = 5
-kind_of (BitLength c) = 6
-
 -- b is the body of the record: all of its fields, and nothing after them
 abbrev pub Fields : Record → List ℕ → Type 0
 Fields (Column f rows) b = ColumnBody f.now rows.now b
@@ -57,7 +49,7 @@ Fields (BitLength c) b = Reads 2 c b []
 -- the record x stands at the front of a file, and rest follows it:
 -- 4 bytes for the size of kind and body, 2 bytes for the kind, the body
 abbrev pub Stands : List ℕ → Record → List ℕ → Type 0
-Stands file x rest = (body t : List ℕ) × Reads 4 (2 + length body) file t × Reads 2 (kind_of x) t (body ++ rest) × Fields x body
+Stands file x rest = (body t : List ℕ) × Reads 4 (2 + length body) file t × Reads 2 (number_of (kind_of x)) t (body ++ rest) × Fields x body
 
 -- a record as a file gives it, wherever its parts are borrowed from
 pub data GivenRecord : Type 0 where

@@ -1,7 +1,8 @@
 // The records of a job file, taken off its front one by one.
 
-ghost use Rattle.std.specs.Prelude.{◌≡◌, ℕ, ◌<◌, Bool, List, [], ◌∷◌, length, ℤ, IfOk, Option, MatchOption, MatchResult, ◌≢◌};
-ghost use Rattle.records.specs.Layout.{ColumnBody, CutBody, Fields, JoinBody, LengthPart, Reads, Stands, kind_of, mark_of};
+ghost use Rattle.std.specs.Prelude.{◌≡◌, ℕ, ◌<◌, Bool, List, [], ◌∷◌, length, ℤ, IfOk, Option, MatchResult, ◌≢◌};
+ghost use Rattle.records.specs.Kinds.{Decodes, kind_of};
+ghost use Rattle.records.specs.Layout.{ColumnBody, CutBody, Fields, JoinBody, LengthPart, Reads, Stands, mark_of};
 
 /// A record of a job file. Its parts are borrowed from the file.
 #[derive(Clone, Copy, Debug)]
@@ -36,173 +37,177 @@ pub enum Record<'a> {
 #[derive(Clone, Copy, PartialEq, Debug)]
 pub struct BadRecord;
 
+// What a record is of.
+#[derive(Clone, Copy, PartialEq, Debug)]
+enum RecordKind {
+    Column,
+    Cut,
+    CutByCharacter,
+    Join,
+    Length,
+    BitLength,
+}
+
+impl TryFrom<u16> for RecordKind {
+    type Error = BadRecord;
+
+    ghost try_from_gives = { Decodes };
+
+    fn try_from(number: u16) -> Result<Self, BadRecord> {
+        match number {
+            1 => Ok(RecordKind::Column),
+            2 => Ok(RecordKind::Cut),
+            3 => Ok(RecordKind::CutByCharacter),
+            4 => Ok(RecordKind::Join),
+            5 => Ok(RecordKind::Length),
+            6 => Ok(RecordKind::BitLength),
+            _ => Err(BadRecord),
+        }
+    }
+}
+
 // The bytes of a kind, which the size of a record counts too.
 const KIND_BYTES: usize = 2;
 
-// The two bytes at the front as a number, lowest first, and what follows them.
-fn read_u16(b: &[u8]) -> Option<(u16, &[u8])>
-    ensures { MatchOption result ((x : ℕ) (rest : List ℕ) → Reads 2 x b.now rest → ⊥) (λ p. Reads 2 p.0 b.now p.1.now) }
-{
-    let [b0, b1, rest @ ..] = b else {
-        return None;
-    };
-    Some((u16::from_le_bytes([*b0, *b1]), rest))
+// A number as a file gives it: a fixed count of bytes, the lowest first.
+pub(crate) trait Number: Copy {
+    ghost width: { ℕ };
+
+    ghost number: { Self → ℕ };
+
+    // The number at the front, and what follows it.
+    fn read(b: &[u8]) -> Result<(Self, &[u8]), BadRecord>
+        ensures { MatchResult result (λ p. Reads width (number p.0) b.now p.1.now) (λ _. (x : ℕ) (rest : List ℕ) → Reads width x b.now rest → ⊥) };
 }
 
-// The four bytes at the front as a number, lowest first, and what follows them.
-pub(crate) fn read_u32(b: &[u8]) -> Option<(u32, &[u8])>
-    ensures { MatchOption result ((x : ℕ) (rest : List ℕ) → Reads 4 x b.now rest → ⊥) (λ p. Reads 4 p.0 b.now p.1.now) }
-{
-    let [b0, b1, b2, b3, rest @ ..] = b else {
-        return None;
-    };
-    Some((u32::from_le_bytes([*b0, *b1, *b2, *b3]), rest))
-}
+impl Number for u16 {
+    ghost width = { 2 };
 
-// The eight bytes at the front as a number, lowest first, and what follows them.
-fn read_u64(b: &[u8]) -> Option<(u64, &[u8])>
-    ensures { MatchOption result ((x : ℕ) (rest : List ℕ) → Reads 8 x b.now rest → ⊥) (λ p. Reads 8 p.0 b.now p.1.now) }
-{
-    let [b0, b1, b2, b3, b4, b5, b6, b7, rest @ ..] = b else {
-        return None;
-    };
-    Some((
-        u64::from_le_bytes([*b0, *b1, *b2, *b3, *b4, *b5, *b6, *b7]),
-        rest,
-    ))
-}
+    ghost number = { λ x. x };
 
-// The number that two bytes give, with nothing after them.
-fn last_u16(b: &[u8]) -> Option<u16>
-    ensures { MatchOption result ((x : ℕ) → Reads 2 x b.now [] → ⊥) (λ x. Reads 2 x b.now []) }
-{
-    let (x, rest) = read_u16(b)?;
-    if rest.len() > 0 {
-        return None;
+    fn read(b: &[u8]) -> Result<(u16, &[u8]), BadRecord> {
+        let (bytes, rest) = b.split_first_chunk().ok_or(BadRecord)?;
+        Ok((u16::from_le_bytes(*bytes), rest))
     }
-    Some(x)
 }
 
-// The number that eight bytes give, with nothing after them.
-fn last_u64(b: &[u8]) -> Option<u64>
-    ensures { MatchOption result ((x : ℕ) → Reads 8 x b.now [] → ⊥) (λ x. Reads 8 x b.now []) }
-{
-    let (x, rest) = read_u64(b)?;
-    if rest.len() > 0 {
-        return None;
+impl Number for u32 {
+    ghost width = { 4 };
+
+    ghost number = { λ x. x };
+
+    fn read(b: &[u8]) -> Result<(u32, &[u8]), BadRecord> {
+        let (bytes, rest) = b.split_first_chunk().ok_or(BadRecord)?;
+        Ok((u32::from_le_bytes(*bytes), rest))
     }
-    Some(x)
+}
+
+impl Number for u64 {
+    ghost width = { 8 };
+
+    ghost number = { λ x. x };
+
+    fn read(b: &[u8]) -> Result<(u64, &[u8]), BadRecord> {
+        let (bytes, rest) = b.split_first_chunk().ok_or(BadRecord)?;
+        Ok((u64::from_le_bytes(*bytes), rest))
+    }
+}
+
+// The number that the bytes give, with nothing after it.
+fn last<T: Number>(b: &[u8]) -> Result<T, BadRecord>
+    ensures { MatchResult result (λ x. Reads T.width (T.number x) b.now []) (λ _. (x : ℕ) → Reads T.width x b.now [] → ⊥) }
+{
+    match T::read(b)? {
+        (x, []) => Ok(x),
+        _ => Err(BadRecord),
+    }
 }
 
 // The byte 1 as yes or the byte 0 as no, and what follows it. Any other byte is no answer.
-pub(crate) fn read_mark(b: &[u8]) -> Option<(bool, &[u8])>
-    ensures { MatchOption result ((v : Bool) (rest : List ℕ) → b.now ≢ mark_of v ∷ rest) (λ p. b.now ≡ mark_of p.0 ∷ p.1.now) }
+pub(crate) fn read_mark(b: &[u8]) -> Result<(bool, &[u8]), BadRecord>
+    ensures { MatchResult result (λ p. b.now ≡ mark_of p.0 ∷ p.1.now) (λ _. (v : Bool) (rest : List ℕ) → b.now ≢ mark_of v ∷ rest) }
 {
-    let (mark, rest) = b.split_first()?;
-    match *mark {
-        0 => Some((false, rest)),
-        1 => Some((true, rest)),
-        _ => None,
+    match b {
+        [0, rest @ ..] => Ok((false, rest)),
+        [1, rest @ ..] => Ok((true, rest)),
+        _ => Err(BadRecord),
     }
 }
 
-// The length that ends the body of a cut, or `Some(None)` where it is left out.
-fn read_length(b: &[u8]) -> Option<Option<u64>>
-    ensures { MatchOption result ((l : Option ℕ) → LengthPart l b.now → ⊥) (λ l. LengthPart l b.now) }
+// The length that ends the body of a cut, or `None` where it is left out.
+fn read_length(b: &[u8]) -> Result<Option<u64>, BadRecord>
+    ensures { MatchResult result (λ l. LengthPart l b.now) (λ _. (l : Option ℕ) → LengthPart l b.now → ⊥) }
 {
-    let (given, rest) = read_mark(b)?;
-    if given {
-        let n = last_u64(rest)?;
-        return Some(Some(n));
+    match read_mark(b)? {
+        (false, []) => Ok(None),
+        (true, rest) => Ok(Some(last(rest)?)),
+        _ => Err(BadRecord),
     }
-    if rest.len() > 0 {
-        return None;
-    }
-    Some(None)
 }
 
 // The format and the rows part of a column record.
-fn read_column(body: &[u8]) -> Option<(&[u8], &[u8])>
-    ensures { MatchOption result ((f rows : List ℕ) → ColumnBody f rows body.now → ⊥) (λ p. ColumnBody p.0.now p.1.now body.now) }
+fn read_column(body: &[u8]) -> Result<(&[u8], &[u8]), BadRecord>
+    ensures { MatchResult result (λ p. ColumnBody p.0.now p.1.now body.now) (λ _. (f rows : List ℕ) → ColumnBody f rows body.now → ⊥) }
 {
-    let (size, rest) = body.split_first()?;
-    let (format, rows) = rest.split_at_checked(*size as usize)?;
-    Some((format, rows))
+    let (size, rest) = body.split_first().ok_or(BadRecord)?;
+    rest.split_at_checked(usize::from(*size)).ok_or(BadRecord)
 }
 
 // The column, the start and the length of a cut.
-fn read_cut(body: &[u8]) -> Option<(u16, i64, Option<u64>)>
-    ensures { MatchOption result ((c : ℕ) (s : ℤ) (l : Option ℕ) → CutBody c s l body.now → ⊥) (λ p. CutBody p.0 p.1 p.2 body.now) }
+fn read_cut(body: &[u8]) -> Result<(u16, i64, Option<u64>), BadRecord>
+    ensures { MatchResult result (λ p. CutBody p.0 p.1 p.2 body.now) (λ _. (c : ℕ) (s : ℤ) (l : Option ℕ) → CutBody c s l body.now → ⊥) }
 {
-    let (column, rest) = read_u16(body)?;
-    let (start, rest) = read_u64(rest)?;
-    let size = read_length(rest)?;
-    Some((column, start.cast_signed(), size))
+    let (column, rest) = u16::read(body)?;
+    let (start, rest) = u64::read(rest)?;
+    let length = read_length(rest)?;
+    Ok((column, start.cast_signed(), length))
 }
 
 // The two columns of a join.
-fn read_join(body: &[u8]) -> Option<(u16, u16)>
-    ensures { MatchOption result ((x y : ℕ) → JoinBody x y body.now → ⊥) (λ p. JoinBody p.0 p.1 body.now) }
+fn read_join(body: &[u8]) -> Result<(u16, u16), BadRecord>
+    ensures { MatchResult result (λ p. JoinBody p.0 p.1 body.now) (λ _. (x y : ℕ) → JoinBody x y body.now → ⊥) }
 {
-    let (left, rest) = read_u16(body)?;
-    let right = last_u16(rest)?;
-    Some((left, right))
+    let (left, rest) = u16::read(body)?;
+    let right = last(rest)?;
+    Ok((left, right))
 }
 
 // The record of this kind with this body.
-fn read_body<'a>(kind: u16, body: &'a [u8]) -> Option<Record<'a>>
-    ensures { MatchOption result ((x : Record) → kind_of x ≡ kind → Fields x body.now → ⊥) (λ x. (kind_of x ≡ kind) × Fields x body.now) }
+fn read_body<'a>(kind: RecordKind, body: &'a [u8]) -> Result<Record<'a>, BadRecord>
+    ensures { MatchResult result (λ x. (kind_of x ≡ kind) × Fields x body.now) (λ _. (x : Record) → kind_of x ≡ kind → Fields x body.now → ⊥) }
 {
-    match kind {
-        1 => {
+    Ok(match kind {
+        RecordKind::Column => {
             let (format, rows) = read_column(body)?;
-            Some(Record::Column { format, rows })
+            Record::Column { format, rows }
         }
-        2 => {
+        RecordKind::Cut => {
             let (column, start, length) = read_cut(body)?;
-            Some(Record::Cut {
+            Record::Cut {
                 column,
                 start,
                 length,
-            })
+            }
         }
-        3 => {
+        RecordKind::CutByCharacter => {
             let (column, start, length) = read_cut(body)?;
-            Some(Record::CutByCharacter {
+            Record::CutByCharacter {
                 column,
                 start,
                 length,
-            })
+            }
         }
-        4 => {
+        RecordKind::Join => {
             let (left, right) = read_join(body)?;
-            Some(Record::Join { left, right })
+            Record::Join { left, right }
         }
-        5 => {
-            let column = last_u16(body)?;
-            Some(Record::Length { column })
-        }
-        6 => {
-            let column = last_u16(body)?;
-            Some(Record::BitLength { column })
-        }
-        _ => None,
-    }
-}
-
-// The record at the front of the file, and what follows it.
-fn read_record<'a>(file: &'a [u8]) -> Option<(Record<'a>, &'a [u8])>
-    ensures { MatchOption result ((x : Record) (rest : List ℕ) → Stands file.now x rest → ⊥) (λ p. Stands file.now p.0 p.1.now) }
-{
-    let (size, rest) = read_u32(file)?;
-    let (kind, rest) = read_u16(rest)?;
-    let size = size as usize;
-    if size < KIND_BYTES {
-        return None;
-    }
-    let (body, rest) = rest.split_at_checked(size - KIND_BYTES)?;
-    let found = read_body(kind, body)?;
-    Some((found, rest))
+        RecordKind::Length => Record::Length {
+            column: last(body)?,
+        },
+        RecordKind::BitLength => Record::BitLength {
+            column: last(body)?,
+        },
+    })
 }
 
 /// The record at the front of a job file, and what follows it.
@@ -215,8 +220,10 @@ pub fn next_record<'a>(file: &'a [u8]) -> Result<(Record<'a>, &'a [u8]), BadReco
     ensures reads { MatchResult result (λ p. Stands file.now p.0 p.1.now) (λ _. (x : Record) (rest : List ℕ) → Stands file.now x rest → ⊥) }
     ensures shorter { IfOk result (λ p. length p.1.now < length file.now) }
 {
-    match read_record(file) {
-        Some(found) => Ok(found),
-        None => Err(BadRecord),
-    }
+    let (size, rest) = u32::read(file)?;
+    let (kind, rest) = u16::read(rest)?;
+    let size = (size as usize).checked_sub(KIND_BYTES).ok_or(BadRecord)?;
+    let (body, rest) = rest.split_at_checked(size).ok_or(BadRecord)?;
+    let kind = RecordKind::try_from(kind)?;
+    Ok((read_body(kind, body)?, rest))
 }

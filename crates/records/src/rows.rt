@@ -1,21 +1,28 @@
 // The rows part of a column record, taken off its front row by row.
 
-ghost use Rattle.std.specs.Prelude.{ℕ, ◌<◌, Bool, List, length, IfSome, MatchOption};
+ghost use Rattle.std.specs.Prelude.{ℕ, ◌<◌, Bool, List, length, IfOk, MatchResult};
 ghost use Rattle.records.specs.Layout.{RowAt};
 
-use crate::record::{read_mark, read_u32};
+use crate::record::{BadRecord, Number, read_mark};
 
-/// One row off the front: whether it is valid, its bytes, and what follows.
+/// A row of a column. A null row keeps the bytes that are stored for it, so it is no `Option`.
+#[derive(Clone, Copy, Debug)]
+pub struct Row<'a> {
+    pub valid: bool,
+    pub bytes: &'a [u8],
+}
+
+/// One row off the front, and what follows it.
 ///
 /// A row is a byte, 1 for valid and 0 for null, a size (4 bytes, lowest first) and that many bytes.
-/// `None` stands for no row: another first byte, or bytes that end too early.
+/// Refused are another first byte and bytes that end too early.
 /// The bytes `1 2 0 0 0 65 66 7` give a valid row with the bytes `65 66`, and what follows is `7`.
-pub fn next_row<'a>(b: &'a [u8]) -> Option<(bool, &'a [u8], &'a [u8])>
-    ensures reads { MatchOption result ((v : Bool) (s rest : List ℕ) → RowAt b.now v s rest → ⊥) (λ p. RowAt b.now p.0 p.1.now p.2.now) }
-    ensures shorter { IfSome result (λ p. length p.2.now < length b.now) }
+pub fn next_row<'a>(b: &'a [u8]) -> Result<(Row<'a>, &'a [u8]), BadRecord>
+    ensures reads { MatchResult result (λ p. RowAt b.now p.0.valid p.0.bytes.now p.1.now) (λ _. (v : Bool) (s rest : List ℕ) → RowAt b.now v s rest → ⊥) }
+    ensures shorter { IfOk result (λ p. length p.1.now < length b.now) }
 {
     let (valid, rest) = read_mark(b)?;
-    let (size, rest) = read_u32(rest)?;
-    let (bytes, rest) = rest.split_at_checked(size as usize)?;
-    Some((valid, bytes, rest))
+    let (size, rest) = u32::read(rest)?;
+    let (bytes, rest) = rest.split_at_checked(size as usize).ok_or(BadRecord)?;
+    Ok((Row { valid, bytes }, rest))
 }

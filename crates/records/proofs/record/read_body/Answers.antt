@@ -1,25 +1,30 @@
-use Rattle.records.proofs.Bodies.{of_cut, of_cut_by_character, of_join, of_length, of_bit_length}
+use Rattle.std.proofs.Common.{◌∙◌}
+use Rattle.std.proofs.lemmas.Result.{MatchResult-from_err}
+use Rattle.records.specs.declared.record.RecordKind.TheVariants.{Cut, CutByCharacter, Join, Length, BitLength}
+use Rattle.records.proofs.Bodies.{each_body}
 use Rattle.records.proofs.record.read_body.Goals as goal
 
-pub returns-in_err-column-in-2 : goal.returns-in_err-column-in-2
-returns-in_err-column-in-2 c =
-    rw c.from_residual-in_err-column-in-2.ensures (of_cut (λ _. ⊥) c.args.kind c.args.body.now c.in-2.is c.in_err-column-in-2.ensures)
+pub returns-in_err-column-in-Cut : goal.returns-in_err-column-in-Cut
+returns-in_err-column-in-Cut c =
+    MatchResult-from_err _ _ _ c.from_residual-in_err-column-in-Cut.ensures.0
+    (λ _ x e. each_body (λ _. ⊥) Cut c.args.body.now c.in_err-column-in-Cut.ensures x (e ∙ c.in-Cut.is))
 
-pub returns-in_err-column-in-3 : goal.returns-in_err-column-in-3
-returns-in_err-column-in-3 c =
-    rw c.from_residual-in_err-column-in-3.ensures
-    (of_cut_by_character (λ _. ⊥) c.args.kind c.args.body.now c.in-3.is c.in_err-column-in-3.ensures)
+pub returns-in_err-column-in-CutByCharacter : goal.returns-in_err-column-in-CutByCharacter
+returns-in_err-column-in-CutByCharacter c =
+    MatchResult-from_err _ _ _ c.from_residual-in_err-column-in-CutByCharacter.ensures.0
+    (λ _ x e. each_body (λ _. ⊥) CutByCharacter c.args.body.now c.in_err-column-in-CutByCharacter.ensures x (e ∙ c.in-CutByCharacter.is))
 
-pub returns-in_err-left-in-4 : goal.returns-in_err-left-in-4
-returns-in_err-left-in-4 c =
-    rw c.from_residual-in_err-left-in-4.ensures (of_join (λ _. ⊥) c.args.kind c.args.body.now c.in-4.is c.in_err-left-in-4.ensures)
+pub returns-in_err-left-in-Join : goal.returns-in_err-left-in-Join
+returns-in_err-left-in-Join c =
+    MatchResult-from_err _ _ _ c.from_residual-in_err-left-in-Join.ensures.0
+    (λ _ x e. each_body (λ _. ⊥) Join c.args.body.now c.in_err-left-in-Join.ensures x (e ∙ c.in-Join.is))
 
-pub returns-in_err-column-in-5 : goal.returns-in_err-column-in-5
-returns-in_err-column-in-5 c =
-    rw c.from_residual-in_err-column-in-5.ensures
-    (of_length (λ _. ⊥) c.args.kind c.args.body.now c.in-5.is c.in_err-column-in-5.ensures)
+pub returns-in_err-last-in-Length : goal.returns-in_err-last-in-Length
+returns-in_err-last-in-Length c =
+    MatchResult-from_err _ _ _ c.from_residual-in_err-last-in-Length.ensures.0
+    (λ _ x e. each_body (λ _. ⊥) Length c.args.body.now c.in_err-last-in-Length.ensures x (e ∙ c.in-Length.is))
 
-pub returns-in_err-column-in-6 : goal.returns-in_err-column-in-6
-returns-in_err-column-in-6 c =
-    rw c.from_residual-in_err-column-in-6.ensures
-    (of_bit_length (λ _. ⊥) c.args.kind c.args.body.now c.in-6.is c.in_err-column-in-6.ensures)
+pub returns-in_err-last-in-BitLength : goal.returns-in_err-last-in-BitLength
+returns-in_err-last-in-BitLength c =
+    MatchResult-from_err _ _ _ c.from_residual-in_err-last-in-BitLength.ensures.0
+    (λ _ x e. each_body (λ _. ⊥) BitLength c.args.body.now c.in_err-last-in-BitLength.ensures x (e ∙ c.in-BitLength.is))
