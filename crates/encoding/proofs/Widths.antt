@@ -1,10 +1,10 @@
 -- Numbers in a signed width, and offsets that keep the rules.
-use Rattle.std.proofs.Common.{◌≡◌, ℕ, suc, ◌+◌, ◌-◌, ◌*◌, ◌/◌, ◌%◌, ◌<◌, ◌≤◌, leb, List, map, length, get_or, ℤ, pos, negsuc, ◌+ℤ◌, ◌≤ℤ◌, ◌<ℤ◌, Some, None, Option, sym, ap, ◌∙◌, subst, inl, inr, mod-lt, mod-eq_of_lt, add-mul, arith, MatchOption}
+use Rattle.std.proofs.Common.{◌≡◌, ℕ, suc, ◌+◌, ◌-◌, ◌*◌, ◌/◌, ◌%◌, ◌<◌, ◌≤◌, leb, List, map, length, get_or, ℤ, pos, negsuc, ◌+ℤ◌, ◌≤ℤ◌, sym, ap, ◌∙◌, subst, inl, inr, mod-lt, mod-eq_of_lt, add-mul, arith}
 use Rattle.std.proofs.lemmas.Nat.{div-add-mod'}
 use Rattle.std.proofs.lemmas.List.{get_or-map}
 use Rattle.std.proofs.lemmas.Int.{ints}
 use Rattle.std.proofs.lemmas.Bool.{cases_lt, cond-true, cond-false, le-leb, lt-leb}
-use Rattle.encoding.specs.Offsets.{wrapped, Wraps, at, before, Right}
+use Rattle.encoding.specs.Offsets.{wrapped, Wraps, at}
 
 -- how many numbers the width has whose greatest number is c
 abbrev span : ℕ → ℕ
@@ -44,29 +44,6 @@ wraps c x =
     ] in
     (p.0, p.1, p.2, wrapped_fits c x)
 
--- an answer's clause made weaker
-pub weaker : {A : Type 0} (o : Option A) {P P' : Type 0} {Q Q' : A → Type 0} → MatchOption o P Q → (P → P') → ((x : A) → Q x → Q' x) → MatchOption o P' Q'
-weaker None h f g = f h
-weaker (Some x) h f g = g x h
-
 -- what stands at i, among the numbers
 pub at_number : {X : Type 0} (number : X → ℤ) (xs : List X) (i : ℕ) (x : X) → i < length xs → x ≡ get_or xs i x → at (map number xs) i ≡ number x
 at_number number xs i x h e = get_or-map number xs i x (pos 0) h ∙ ap number (sym e)
-
-pub not_natural : (x z : ℤ) (n : ℕ) → x ≡ z → z <ℤ pos 0 → x ≡ pos n → ⊥
-not_natural x z n e h q = grind (arith, ints)
-
-pub wrong_negative : (os : List ℤ) (end i : ℕ) (z : ℤ) → at os i ≡ z → z <ℤ pos 0 → Right os end i → ⊥
-wrong_negative os end i z e h r = let p = r.0 in grind (arith, ints)
-
-pub wrong_falling : (os : List ℤ) (end i n last : ℕ) → at os i ≡ pos n → before os i ≡ pos last → n < last → Right os end i → ⊥
-wrong_falling os end i n last e b h r = let p = r.1 in grind (arith, ints)
-
-pub wrong_beyond : (os : List ℤ) (end i n : ℕ) → at os i ≡ pos n → end < n → Right os end i → ⊥
-wrong_beyond os end i n e h r = let p = r.2 in grind (arith, ints)
-
-pub right_step : (os : List ℤ) (end i n last : ℕ) → at os i ≡ pos n → before os i ≡ pos last → last ≤ n → n ≤ end → Right os end i
-right_step os end i n last e b h l = (grind (arith, ints), grind (arith, ints), grind (arith, ints))
-
-pub below_ceiling : (x : ℤ) (n c : ℕ) → x ≡ pos n → n ≤ c → x ≤ℤ pos c
-below_ceiling x n c e h = grind (arith, ints)

@@ -1,5 +1,5 @@
 // Validity maps: a bit for each row, 1 for a row that holds a value.
-ghost use Rattle.std.specs.Prelude.{◌≡◌, ℕ, ◌+◌, ◌*◌, ◌/◌, ◌%◌, ◌<◌, ◌≤◌, length, Decides, MatchOption};
+ghost use Rattle.std.specs.Prelude.{◌≡◌, ℕ, ◌+◌, ◌*◌, ◌/◌, ◌%◌, ◌<◌, ◌≤◌, ◌↔◌, length, Decides, IsOk, MatchOption};
 ghost use Rattle.encoding.specs.Bitmap.{bit, marked, with_bit, BitLaws};
 
 /// A validity map: bytes with a start bit. The bit of row i is bit start + i, the lowest bit of each byte first.
@@ -40,25 +40,22 @@ impl Bitmap<'_> {
         ensures { MatchOption result (8 * length self.now.bytes.now ≤ self.now.start + i) (λ v. (self.now.start + i < 8 * length self.now.bytes.now) × (v ≡ bit self.now.bytes.now (self.now.start + i))) }
     {
         let (byte, k) = place(self.start, i);
-        if byte < self.bytes.len() {
-            Some((self.bytes[byte] >> k) & 1 == 1)
-        } else {
-            None
-        }
+        self.bytes.get(byte).map(|b| (b >> k) & 1 == 1)
     }
 }
 
-/// Writes the bit of row i; every other bit stays. False, and nothing written, where the map ends before it.
-pub fn write(bytes: &mut [u8], start: usize, i: usize, valid: bool) -> bool
-    ensures tells { Decides result (start + i < 8 * length bytes.old) }
+/// The map ends before the bit.
+#[derive(Clone, Copy, PartialEq, Debug)]
+pub struct NoBit;
+
+/// Writes the bit of row i; every other bit stays. An error, and nothing written, where the map ends before it.
+pub fn write(bytes: &mut [u8], start: usize, i: usize, valid: bool) -> Result<(), NoBit>
+    ensures ok { IsOk result ↔ (start + i < 8 * length bytes.old) }
     ensures after { bytes.new ≡ with_bit bytes.old (start + i) valid }
     ensures law { BitLaws }
 {
     let (byte, k) = place(start, i);
-    if byte < bytes.len() {
-        bytes[byte] = with_bit(bytes[byte], k, valid);
-        true
-    } else {
-        false
-    }
+    let b = *bytes.get(byte).ok_or(NoBit)?;
+    bytes[byte] = with_bit(b, k, valid);
+    Ok(())
 }

@@ -8,7 +8,7 @@ use crate::offset::Offset;
 pub fn exact(bytes: u64) -> u128
     ensures { result ≡ 8 * bytes }
 {
-    bytes as u128 * 8
+    u128::from(bytes) * 8
 }
 
 /// Eight times a length, wrapped in the width O. Example: 268,435,456 bytes in 32 bits give -2,147,483,648.
@@ -23,5 +23,5 @@ pub fn wrapped_bits<O: Offset>(bytes: u64) -> O
 pub fn fits<O: Offset>(bytes: u64) -> bool
     ensures { Decides result (8 * bytes ≤ O.Offset.ceiling) }
 {
-    exact(bytes) <= O::max_value() as u128
+    exact(bytes) <= u128::from(O::max_value())
 }

@@ -51,19 +51,15 @@ impl Offset for i32 {
     ghost same = { λ a b same. same };
 
     fn max_value() -> u64 {
-        2_147_483_647
+        i32::MAX as u64
     }
 
     fn from_u64(n: u64) -> Option<i32> {
-        if n > 2_147_483_647 {
-            None
-        } else {
-            Some(n as i32)
-        }
+        i32::try_from(n).ok()
     }
 
     fn to_u64(self) -> Option<u64> {
-        if self < 0 { None } else { Some(self as u64) }
+        u64::try_from(self).ok()
     }
 
     fn lend(list: &[i32]) -> Offsets<'_> {
@@ -71,7 +67,7 @@ impl Offset for i32 {
     }
 
     fn wrapping(n: u128) -> i32 {
-        ((n % 4_294_967_296) as u32).cast_signed()
+        ((n % (1 << 32)) as u32).cast_signed()
     }
 }
 
@@ -87,19 +83,15 @@ impl Offset for i64 {
     ghost same = { λ a b same. same };
 
     fn max_value() -> u64 {
-        9_223_372_036_854_775_807
+        i64::MAX as u64
     }
 
     fn from_u64(n: u64) -> Option<i64> {
-        if n > 9_223_372_036_854_775_807 {
-            None
-        } else {
-            Some(n as i64)
-        }
+        i64::try_from(n).ok()
     }
 
     fn to_u64(self) -> Option<u64> {
-        if self >= 0 { Some(self as u64) } else { None }
+        self.try_into().ok()
     }
 
     fn lend(list: &[i64]) -> Offsets<'_> {
@@ -107,6 +99,6 @@ impl Offset for i64 {
     }
 
     fn wrapping(n: u128) -> i64 {
-        ((n % 18_446_744_073_709_551_616) as u64).cast_signed()
+        ((n % (1 << 64)) as u64).cast_signed()
     }
 }

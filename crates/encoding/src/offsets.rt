@@ -23,23 +23,12 @@ pub fn check<O: Offset>(offsets: &[O], end: u64) -> Result<(), OffsetFault>
     ensures { Judged (map O.Offset.number offsets.now) O.Offset.ceiling end result }
 {
     let mut last = 0;
-    for i in 0..offsets.len() {
-        let Some(n) = offsets[i].to_u64() else {
-            return Err(OffsetFault {
-                row: i.saturating_sub(1),
-            });
-        };
-        if n < last {
-            return Err(OffsetFault {
-                row: i.saturating_sub(1),
-            });
-        }
-        if n > end {
-            return Err(OffsetFault {
-                row: i.saturating_sub(1),
-            });
-        }
-        last = n;
+    for (i, offset) in offsets.iter().enumerate() {
+        let row = i.saturating_sub(1);
+        last = offset
+            .to_u64()
+            .filter(|n| (last..=end).contains(n))
+            .ok_or(OffsetFault { row })?;
     }
     Ok(())
 }
@@ -48,11 +37,7 @@ pub fn check<O: Offset>(offsets: &[O], end: u64) -> Result<(), OffsetFault>
 pub fn read<O: Offset>(offsets: &[O], i: usize) -> Option<u64>
     ensures { Answered (map O.Offset.number offsets.now) O.Offset.ceiling i result }
 {
-    if i < offsets.len() {
-        offsets[i].to_u64()
-    } else {
-        None
-    }
+    offsets.get(i)?.to_u64()
 }
 
 impl Offsets<'_> {
@@ -70,10 +55,7 @@ impl Offsets<'_> {
     pub fn is_wide(&self) -> bool
         ensures { result ≡ wide_of self.now }
     {
-        match self {
-            Offsets::Narrow(_) => false,
-            Offsets::Wide(_) => true,
-        }
+        matches!(self, Offsets::Wide(_))
     }
 
     /// Offset i, or nothing where there is none or it is negative.
