@@ -1,37 +1,33 @@
 -- Columns of a job by their numbers.
-use Rattle.std.proofs.Common.{◌≡◌, ℕ, ◌<◌, ◌≤◌, true, List, [], length, get_or, Some, Ok, Err, Option, sym, refl, ap, ◌∙◌, subst, arith}
+use Rattle.std.proofs.Common.{◌≡◌, ℕ, ◌<◌, ◌≤◌, true, List, length, get_or, Some, Ok, Err, Option, Result, MatchResult, sym, refl, ap, ◌∙◌, subst, arith}
 use Rattle.std.proofs.lemmas.List.{get_or-map, length-map}
 use Rattle.kernels.specs.declared.length.LengthFault.TheVariants.{Rows}
 use Rattle.kernels.specs.declared.length.Unit as unit
 use Rattle.kinds.specs.Lengths.{ceiling}
 use Rattle.kinds.specs.declared.fault.KindFault.TheVariants.{Lacks, Length}
 use Rattle.records.specs.Layout.{Laid, GivenRow}
-use Rattle.records.specs.declared.format.Format.TheVariants.{Utf8}
 use Rattle.records.proofs.RowParts.{laid_same}
 use Rattle.job.specs.declared.column.OffsetFormat.{OffsetFormat}
 use Rattle.job.specs.declared.entry.Entry.{Entry}
-use Rattle.job.specs.declared.fault.JobFault.{JobFault}
-use Rattle.job.specs.declared.fault.JobFault.TheVariants.{Memory, Record, NotRead, File, Column, Kind}
+use Rattle.job.specs.declared.fault.JobError.{JobError}
+use Rattle.job.specs.declared.fault.JobError.TheVariants.{Memory, Fault}
+use Rattle.job.specs.declared.fault.JobFault.TheVariants.{Record, NotRead, File, Column, Kind}
 use Rattle.job.specs.declared.lengths.Lengths.{Lengths}
-use Rattle.job.specs.Faults.{unread_of}
-use Rattle.job.specs.Measured.{PartMeasured, ColumnMeasured}
+use Rattle.job.specs.Faults.{OnFault, unread_of}
+use Rattle.job.specs.Measured.{PartChecked, PartMeasured, ColumnMeasured}
+use Rattle.job.specs.Printed.{IsRead}
 use Rattle.job.specs.States.{record_of, records_of, Has}
 use Rattle.job.specs.Transcript.{ColumnRecord, AllText, Read, IsNotRead, built}
 
--- what stands for an element past the end
-abbrev pub none : Entry
-none = record { format = Utf8; part = record { ref_ptr = (0, 0); now = [] } }
+at_entry : (es : List Entry) (k : ℕ) (e : Entry) → k < length es → e ≡ get_or es k e → (d : ColumnRecord) → get_or (records_of es) k d ≡ record_of e
+at_entry es k e h q d = get_or-map record_of es k e d h ∙ ap record_of (sym q)
 
-at_entry : (es : List Entry) (k : ℕ) → k < length es → (d : ColumnRecord) → get_or (records_of es) k d ≡ record_of (get_or es k none)
-at_entry es k h d = get_or-map record_of es k none d h
-
-pub has_at : (es : List Entry) (k : ℕ) (f : OffsetFormat) → k < length es → length (get_or es k none).part.now ≤ 65536 → built (get_or es k none).format ≡ Some f
-    → Has (records_of es) k f (get_or es k none).part.now
-has_at es k f h s b = record {
-  taken = record_of (get_or es k none);
+pub has_at : (es : List Entry) (k : ℕ) (e : Entry) (f : OffsetFormat) → k < length es → e ≡ get_or es k e → built e.format ≡ Some f → Has (records_of es) k f e.part.bytes.now
+has_at es k e f h q b = record {
+  taken = record_of e;
   inside = omega (arith, length-map es record_of, h);
-  here = at_entry es k h;
-  small = s;
+  here = at_entry es k e h q;
+  small = e.part.small;
   format = b;
   part_is = refl;
 }
@@ -39,11 +35,8 @@ has_at es k f h s b = record {
 pub has_none : (es : List Entry) (k : ℕ) (f : OffsetFormat) (part : List ℕ) → length es ≤ k → Has (records_of es) k f part → ⊥
 has_none es k f part l h = omega (arith, h.inside, length-map es record_of)
 
-pub has_only : (es : List Entry) (k : ℕ) (f : OffsetFormat) (part : List ℕ) → k < length es → Has (records_of es) k f part
-    → (length (get_or es k none).part.now ≤ 65536) × (built (get_or es k none).format ≡ Some f)
-has_only es k f part l h =
-    let e : h.taken ≡ record_of (get_or es k none) = sym (h.here h.taken) ∙ at_entry es k l h.taken in
-    (subst (λ (c : ColumnRecord). length c.part ≤ 65536) e h.small, ap (λ (c : ColumnRecord). built c.format) (sym e) ∙ h.format)
+pub has_only : (es : List Entry) (k : ℕ) (e : Entry) (f : OffsetFormat) (part : List ℕ) → k < length es → e ≡ get_or es k e → Has (records_of es) k f part → built e.format ≡ Some f
+has_only es k e f part l q h = ap (λ (c : ColumnRecord). built c.format) (sym (sym (h.here h.taken) ∙ at_entry es k e l q h.taken)) ∙ h.format
 
 -- a column that is read has a record
 pub has_read : (cs : List ColumnRecord) (k : ℕ) (f : OffsetFormat) (part : List ℕ) (rs : List GivenRow) → Has cs k f part → Laid part rs → (f.text ≡ true → AllText rs) → Read cs k f rs
@@ -78,16 +71,26 @@ not_text cs k f part rs h l t n = λ g qs r.
     let s = has_same cs k f g part qs h r in
     n (subst AllText (laid_same s.1 l) (r.texts (ap (λ (x : OffsetFormat). x.text) (sym s.0) ∙ t)))
 
-pub column_ok : (u : unit.Unit) (cs : List ColumnRecord) (k : ℕ) (f : OffsetFormat) (part : List ℕ) (m : Lengths) → Has cs k f part
-    → PartMeasured u f.text (ceiling f.wide) part (Ok m) → ColumnMeasured u cs k (Ok m)
-column_ok u cs k f part m h p = (f, p.0, has_read cs k f part p.0 h p.1 p.2, p.3, p.4)
+-- what is measured of the part, as a later operation meets it
+pub column_measured : (u : unit.Unit) (cs : List ColumnRecord) (k : ℕ) (f : OffsetFormat) (part : List ℕ) (r s : Result Lengths JobError) → Has cs k f part
+    → PartMeasured u f.text (ceiling f.wide) part r → MatchResult r (λ m. s ≡ Ok m) (λ e. s ≡ Err (unread_of e)) → ColumnMeasured u cs k s
+column_measured u cs k f part (Ok m) s h p q = rw q (f, p.0, has_read cs k f part p.0 h p.1 p.2, p.3, p.4)
+column_measured u cs k f part (Err (Memory e)) s h p q = rw q tt
+column_measured u cs k f part (Err (Fault Record)) s h p q = rw q (not_laid cs k f part h p)
+column_measured u cs k f part (Err (Fault NotRead)) s h p q = absurd p
+column_measured u cs k f part (Err (Fault File)) s h p q = absurd p
+column_measured u cs k f part (Err (Fault (Column e))) s h p q = rw q (not_text cs k f part p.0 h p.1 p.2 p.3)
+column_measured u cs k f part (Err (Fault (Kind Lacks))) s h p q = absurd p
+column_measured u cs k f part (Err (Fault (Kind (Length Rows)))) s h p q = rw q (f, p.0, has_read cs k f part p.0 h p.1 p.2, p.3)
 
-pub column_err : (u : unit.Unit) (cs : List ColumnRecord) (k : ℕ) (f : OffsetFormat) (part : List ℕ) (e : JobFault) → Has cs k f part
-    → PartMeasured u f.text (ceiling f.wide) part (Err e) → ColumnMeasured u cs k (Err (unread_of e))
-column_err u cs k f part Memory h p = tt
-column_err u cs k f part Record h p = not_laid cs k f part h p
-column_err u cs k f part NotRead h p = absurd p
-column_err u cs k f part File h p = absurd p
-column_err u cs k f part (Column e) h p = not_text cs k f part p.0 h p.1 p.2 p.3
-column_err u cs k f part (Kind Lacks) h p = absurd p
-column_err u cs k f part (Kind (Length Rows)) h p = (f, p.0, has_read cs k f part p.0 h p.1 p.2, p.3)
+-- whether the column is made, as a later operation meets it
+pub column_checked : (cs : List ColumnRecord) (k : ℕ) (f : OffsetFormat) (part : List ℕ) (r s : Result (Unit {0}) JobError) → Has cs k f part
+    → PartChecked f.text part r → MatchResult r (λ m. s ≡ Ok m) (λ e. s ≡ Err (unread_of e))
+    → MatchResult s (λ _. IsRead cs k) (OnFault (λ g. (g ≡ NotRead) × IsNotRead cs k))
+column_checked cs k f part (Ok m) s h p q = rw q (f, p.0, has_read cs k f part p.0 h p.1 p.2)
+column_checked cs k f part (Err (Memory e)) s h p q = rw q tt
+column_checked cs k f part (Err (Fault Record)) s h p q = rw q (refl, not_laid cs k f part h p)
+column_checked cs k f part (Err (Fault NotRead)) s h p q = absurd p
+column_checked cs k f part (Err (Fault File)) s h p q = absurd p
+column_checked cs k f part (Err (Fault (Column e))) s h p q = rw q (refl, not_text cs k f part p.0 h p.1 p.2 p.3)
+column_checked cs k f part (Err (Fault (Kind e))) s h p q = absurd p

@@ -22,14 +22,16 @@ use Rattle.columns.specs.OffsetColumn.{lists_of, Granted, Refused, Made}
 use Rattle.columns.specs.Rows.{SourceRow}
 use Rattle.columns.specs.Shown.{shown, lengths_shown}
 use Rattle.records.specs.Layout.{GivenRow, Laid}
-use Rattle.job.specs.declared.fault.JobFault.{JobFault}
-use Rattle.job.specs.declared.fault.JobFault.TheVariants.{Memory, Record, NotRead, File, Column, Kind}
+use Rattle.job.specs.declared.fault.JobError.{JobError}
+use Rattle.job.specs.declared.fault.JobError.TheVariants.{Memory, Fault}
+use Rattle.job.specs.declared.fault.JobFault.TheVariants.{Record, NotRead, File, Column, Kind}
 use Rattle.job.specs.declared.gather.Gathered.{Gathered}
 use Rattle.job.specs.declared.lengths.Lengths.{Lengths}
 use Rattle.job.specs.Gathered.{starts_of, given_of_row, Lays}
-use Rattle.job.specs.Measured.{null_rows, Tells, MeasuredAs, PartMeasured}
+use Rattle.job.specs.Faults.{OnFault}
+use Rattle.job.specs.Measured.{null_rows, Shows, Tells, MeasuredAs, PartChecked, PartMeasured}
 use Rattle.job.specs.Transcript.{AllText, nulls, sizes}
-use Rattle.job.proofs.Gathering.{stands, laid_small}
+use Rattle.job.proofs.Gathering.{stands}
 
 -- the lists l hold the rows rs
 pub record Over (l : Lists) (rs : List GivenRow) : Type 0 where
@@ -51,27 +53,24 @@ nulls_given (x ∷ xs) =
     sum_by-cons (λ r. cond (not r.valid) 1 0) x xs ∙ ap (λ (n : ℕ). cond (not x.valid) 1 0 + n) (nulls_given xs)
     ∙ sym (sum_by-cons (λ r. cond (not r.valid) 1 0) (given_of_row x) (map given_of_row xs))
 
--- the column over them: it is made unless it is marked text and a row is no text
-pub record GrantedOver (l : Lists) (rs : List GivenRow) (c : OffsetColumn) : Type 0 where
-  pub lists_are : lists_of c ≡ l
-  pub texts : l.text ≡ true → AllText rs
-  pub lengths_are : lengths_shown l ≡ sizes rs
-  pub nulls_are : null_rows (shown l).rows ≡ nulls rs
+abbrev pub RefusedOver : Bool → List GivenRow → ColumnFault → Type 0
+RefusedOver text rs f = (text ≡ true) × (AllText rs → ⊥) × (number f ≡ 4)
 
-abbrev pub RefusedOver : Lists → List GivenRow → ColumnFault → Type 0
-RefusedOver l rs f = (l.text ≡ true) × (AllText rs → ⊥) × (number f ≡ 4)
+abbrev pub GrantedOver : Bool → ℕ → List GivenRow → OffsetColumn → Type 0
+GrantedOver text k rs c = (text ≡ true → AllText rs) × Shows k rs c
 
-granted_over : (l : Lists) (rs : List GivenRow) (c : OffsetColumn) → Over l rs → Granted l c → GrantedOver l rs c
-granted_over l rs c o g =
-    let s = stands l rs o.counted o.starts o.content o.covered o.bits o.few o.low in
-    record {
-      lists_are = g.kept;
-      texts = λ e i d h. subst utf8.Text (s.3 i d h) (g.texts e i (omega (arith, o.counted, h)));
-      lengths_are = g.lengths ∙ map_given (meaning_of l).rows ∙ ap sizes s.2;
-      nulls_are = ap (λ m. null_rows m.rows) g.rows ∙ nulls_given (meaning_of l).rows ∙ ap nulls s.2;
-    }
+granted_over : (l : Lists) (k : ℕ) (rs : List GivenRow) (c : OffsetColumn) → Over l rs → ceiling_of l.offsets ≡ k → Granted l c → GrantedOver l.text k rs c
+granted_over l k rs c o q g =
+    let s = stands l rs o.counted o.starts o.content o.covered o.bits o.few o.low in (
+      λ e i d h. subst utf8.Text (s.3 i d h) (g.texts e i (omega (arith, o.counted, h))),
+      record {
+        ceiling_is = ap (λ (x : Lists). ceiling_of x.offsets) g.kept ∙ q;
+        lengths_are = ap lengths_shown g.kept ∙ g.lengths ∙ map_given (meaning_of l).rows ∙ ap sizes s.2;
+        nulls_are = ap (λ (x : Lists). null_rows (shown x).rows) g.kept ∙ ap (λ m. null_rows m.rows) g.rows ∙ nulls_given (meaning_of l).rows ∙ ap nulls s.2;
+      },
+    )
 
-refused_over : (l : Lists) (rs : List GivenRow) (f : ColumnFault) → Over l rs → Refused l f → RefusedOver l rs f
+refused_over : (l : Lists) (rs : List GivenRow) (f : ColumnFault) → Over l rs → Refused l f → RefusedOver l.text rs f
 refused_over l rs Shape o h =
     let s = stands l rs o.counted o.starts o.content o.covered o.bits o.few o.low in absurd (h s.0)
 refused_over l rs (Offset row) o h =
@@ -85,46 +84,55 @@ refused_over l rs (Text row fault) o h =
     let k : row < length rs = omega (arith, h.3.0, o.counted) in
     (h.2, λ t. unreadable_no_text _ _ h.3.2 (subst utf8.Text (sym (s.3 row d k)) (t row d k)), refl)
 
-pub made_over : (l : Lists) (rs : List GivenRow) (r : Result OffsetColumn ColumnFault) → Over l rs → Made l r → MatchResult r (GrantedOver l rs) (RefusedOver l rs)
-made_over l rs (Ok c) o h = granted_over l rs c o h
-made_over l rs (Err f) o h = refused_over l rs f o h
+-- the column over the lists of rows: it is made unless it is marked text and a row is no text
+pub made_over : (l : Lists) (k : ℕ) (rs : List GivenRow) (r : Result OffsetColumn ColumnFault) → Over l rs → ceiling_of l.offsets ≡ k → Made l r
+    → MatchResult r (GrantedOver l.text k rs) (RefusedOver l.text rs)
+made_over l k rs (Ok c) o q h = granted_over l k rs c o q h
+made_over l k rs (Err f) o q h = refused_over l rs f o h
 
 -- the lists that were gathered hold the rows
-pub over_from : {X : Type 0} (number : X → ℤ) (g : Gathered X) (rs : List GivenRow) (part : List ℕ) (text : Bool) (o : Offsets) (ds : List ℕ) (m : Bitmap)
-    → Lays number g rs → Laid part rs → length part ≤ 65536 → 2147483647 ≤ ceiling_of o → numbers o ≡ map number (vec_items g.offsets)
+pub over_from : {X : Type 0} (number : X → ℤ) (g : Gathered X) (rs : List GivenRow) (text : Bool) (o : Offsets) (ds : List ℕ) (m : Bitmap)
+    → Lays number g rs → length rs ≤ 65536 → length (flat_map (λ r. r.bytes) rs) ≤ 65536 → 2147483647 ≤ ceiling_of o → numbers o ≡ map number (vec_items g.offsets)
     → ds ≡ vec_items g.«data» → m.bytes.now ≡ vec_items g.validity → m.start ≡ 0
     → Over (record { text = text; rows = g.rows; offsets = o; content = ds; validity = Some m }) rs
-over_from number g rs part text o ds m y h s k p q b z =
-    let n = laid_small h in
-    record {
-      counted = y.counted;
-      starts = p ∙ y.starts;
-      content = q ∙ y.content;
-      covered = le-leb (m.start + g.rows) (8 * length m.bytes.now) (omega (arith, y.covered, ap length b, z));
-      bits = λ i d l. (λ j. bit (b j) (sums i j)) ∙ y.bits i d l;
-      few = omega (arith, n.0, s);
-      low = omega (arith, n.1, s, k);
-    }
+over_from number g rs text o ds m y few low k p q b z = record {
+  counted = y.counted;
+  starts = p ∙ y.starts;
+  content = q ∙ y.content;
+  covered = le-leb (m.start + g.rows) (8 * length m.bytes.now) (omega (arith, y.covered, ap length b, z));
+  bits = λ i d l. (λ j. bit (b j) (sums i j)) ∙ y.bits i d l;
+  few = omega arith;
+  low = omega arith;
+}
   where
     sums : (i : ℕ) → m.start + i ≡ i
     sums i = omega (arith, z)
 
+-- a part that is not laid out as rows has no column
+pub part_unread : (u : unit.Unit) (text : Bool) (c : ℕ) (part : List ℕ) (e : JobError) → OnFault (λ f. (f ≡ Record) × ((rs : List GivenRow) → Laid part rs → ⊥)) e
+    → PartMeasured u text c part (Err e) × PartChecked text part (Err e)
+part_unread u text c part (Memory m) h = (tt, tt)
+part_unread u text c part (Fault f) h = rw h.0 (h.1, h.1)
+
 -- what is measured of the column is measured of the record's rows
-pub part_from : (u : unit.Unit) (l : Lists) (rs : List GivenRow) (c : ℕ) (part : List ℕ) (r : Result Lengths JobFault) → Laid part rs → (l.text ≡ true → AllText rs)
-    → lengths_shown l ≡ sizes rs → null_rows (shown l).rows ≡ nulls rs → ceiling_of l.offsets ≡ c → MeasuredAs u l r → PartMeasured u l.text c part r
-part_from u l rs c part (Ok m) h t e z q k =
-    let n : length (lengths_shown l) ≡ length rs = ap length e ∙ length-map rs (λ (w : GivenRow). length w.bytes) in (
+pub part_from : (u : unit.Unit) (text : Bool) (rs : List GivenRow) (k : ℕ) (part : List ℕ) (c : OffsetColumn) (r : Result Lengths JobError) → Laid part rs → GrantedOver text k rs c
+    → MeasuredAs u (lists_of c) r → PartMeasured u text k part r
+part_from u text rs k part c (Ok m) h g p =
+    let e = g.1.lengths_are in
+    let n : length (lengths_shown (lists_of c)) ≡ length rs = ap length e ∙ length-map rs (λ (w : GivenRow). length w.bytes) in (
       rs,
       h,
-      t,
-      omega (arith, k.0, n),
-      subst (λ (ls : List ℕ). Tells u c (nulls rs) ls m) e (subst (λ (x : ℕ). Tells u c x (lengths_shown l) m) z (subst (λ (x : ℕ). Tells u x (null_rows (shown l).rows) (lengths_shown l) m) q k.1)),
+      g.0,
+      omega (arith, p.0, n),
+      subst (λ (ls : List ℕ). Tells u k (nulls rs) ls m) e
+          (subst (λ (x : ℕ). Tells u k x (lengths_shown (lists_of c)) m) g.1.nulls_are
+          (subst (λ (x : ℕ). Tells u x (null_rows (shown (lists_of c)).rows) (lengths_shown (lists_of c)) m) g.1.ceiling_is p.1)),
     )
-part_from u l rs c part (Err Memory) h t e z q k = tt
-part_from u l rs c part (Err Record) h t e z q k = absurd k
-part_from u l rs c part (Err NotRead) h t e z q k = absurd k
-part_from u l rs c part (Err File) h t e z q k = absurd k
-part_from u l rs c part (Err (Column f)) h t e z q k = absurd k
-part_from u l rs c part (Err (Kind Lacks)) h t e z q k = absurd k
-part_from u l rs c part (Err (Kind (Length Rows))) h t e z q k =
-    (rs, h, t, omega (arith, k, ap length e, length-map rs (λ (w : GivenRow). length w.bytes)))
+part_from u text rs k part c (Err (Memory m)) h g p = tt
+part_from u text rs k part c (Err (Fault Record)) h g p = absurd p
+part_from u text rs k part c (Err (Fault NotRead)) h g p = absurd p
+part_from u text rs k part c (Err (Fault File)) h g p = absurd p
+part_from u text rs k part c (Err (Fault (Column f))) h g p = absurd p
+part_from u text rs k part c (Err (Fault (Kind Lacks))) h g p = absurd p
+part_from u text rs k part c (Err (Fault (Kind (Length Rows)))) h g p =
+    (rs, h, g.0, omega (arith, p, ap length g.1.lengths_are, length-map rs (λ (w : GivenRow). length w.bytes)))

@@ -103,23 +103,11 @@ pub record Taken {X : Type 0} (number : X → ℤ) (part rest : List ℕ) (g : G
   pub few : g.rows + length rest ≤ length part
 
 -- nothing is read yet
-pub taken_none : {X : Type 0} (number : X → ℤ) (part : List ℕ) (g : Gathered X) (x : X) → g.rows ≡ 0 → vec_items g.offsets ≡ x ∷ [] → number x ≡ pos 0
-    → vec_items g.«data» ≡ [] → Taken number part part g []
-taken_none number part g x n o e d =
-    let size : vec_len g.«data» ≡ 0 = g.«data».ok.0 ∙ ap length d in
-    record {
-      lays = record {
-        counted = n;
-        starts = ap (map number) o ∙ ap (λ (z : ℤ). z ∷ []) e;
-        content = d;
-        covered = omega arith;
-        bits = λ k q h. absurd (omega arith);
-      };
-      onward = λ qs l. l;
-      back = λ ws l. (ws, refl, l);
-      room = omega arith;
-      few = omega arith;
-    }
+pub taken_none : {X : Type 0} (number : X → ℤ) (part : List ℕ) (g : Gathered X) → Lays number g [] → Taken number part part g []
+taken_none number part g l =
+    let size : vec_len g.«data» ≡ 0 = g.«data».ok.0 ∙ ap length l.content in
+    let none = l.counted in
+    record { lays = l; onward = λ qs m. m; back = λ ws m. (ws, refl, m); room = omega arith; few = omega arith }
 
 -- a row more is read
 pub taken_more : {X : Type 0} (number : X → ℤ) (part rest t : List ℕ) (g h : Gathered X) (v : Bool) (s : List ℕ) (rs : List GivenRow) → Taken number part rest g rs

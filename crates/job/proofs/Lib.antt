@@ -1,10 +1,10 @@
 pub mod Answering
 pub mod Finding
-pub mod Failing
 pub mod FromRows
 pub mod Gathering
 pub mod Growing
 pub mod Measuring
 pub mod Printing
+pub mod Refusing
 pub mod Stepping
 pub mod Unique

@@ -1,26 +1,39 @@
 -- What operations print, by the columns that they name.
-use Rattle.std.specs.Prelude.{◌≡◌, ℕ, ◌<◌, ◌≤◌, ◌⊎◌, List, ◌++◌, length}
-use Rattle.kernels.specs.declared.length.Unit as unit
+use Rattle.std.specs.Prelude.{◌≡◌, ℕ, ◌⊎◌, List, ◌++◌, Ok, Err, vec_items, Result}
+use Rattle.std.specs.List.{flat_map}
+use Rattle.kinds.specs.declared.fault.KindFault.TheVariants.{Lacks}
+use Rattle.kinds.specs.declared.fault.KindFault.TheVariants.{Length as Measure}
 use Rattle.records.specs.Layout.{GivenRow}
 use Rattle.records.specs.declared.record.Record.{Record}
 use Rattle.records.specs.declared.record.Record.TheVariants.{Column, Cut, CutByCharacter, Join, Length, BitLength}
 use Rattle.job.specs.declared.column.OffsetFormat.{OffsetFormat}
-use Rattle.job.specs.Lines.{line}
-use Rattle.job.specs.Transcript.{ColumnRecord, Read, IsNotRead, length_lines, Operation}
+use Rattle.job.specs.declared.fault.JobError.{JobError}
+use Rattle.job.specs.declared.fault.JobError.TheVariants.{Memory, Fault}
+use Rattle.job.specs.declared.fault.JobFault.TheVariants.{Record as NoRecord, NotRead, File, Column as NoColumn, Kind}
+use Rattle.job.specs.declared.lengths.Lengths.{Lengths}
+use Rattle.job.specs.Faults.{number}
+use Rattle.job.specs.Lines.{line, number_line}
+use Rattle.job.specs.Transcript.{ColumnRecord, Read, IsNotRead, Operation}
 
 abbrev pub IsRead : List ColumnRecord → ℕ → Type 0
 IsRead cs c = (k : OffsetFormat) × (rs : List GivenRow) × Read cs c k rs
 
--- measuring column c prints its lengths, or 18 or 12
-pub data MeasurePrinted (cs : List ColumnRecord) (n : ℕ) (u : unit.Unit) (c : ℕ) : List ℕ → Type 0 where
-  not_read : IsNotRead cs c → MeasurePrinted cs n u c (line n 18 0 0 0)
-  too_many : (k : OffsetFormat) (rs : List GivenRow) → Read cs c k rs → 4096 < length rs → MeasurePrinted cs n u c (line n 12 0 0 0)
-  measured : (k : OffsetFormat) (rs : List GivenRow) → Read cs c k rs → length rs ≤ 4096 → MeasurePrinted cs n u c (length_lines u n k.wide rs)
+-- what operation n prints that has this answer; want of memory prints nothing
+abbrev pub Prints : ℕ → Result Lengths JobError → List ℕ → Type 0
+Prints n (Ok m) s = s ≡ line n 0 m.rows m.nulls m.wrapped ++ flat_map number_line (vec_items m.numbers)
+Prints n (Err (Memory e)) s = ⊥
+Prints n (Err (Fault f)) s = s ≡ line n (number f) 0 0 0
 
--- an operation on two columns that is not built prints 18 or 15
-pub data LackingPrinted (cs : List ColumnRecord) (n a b : ℕ) : List ℕ → Type 0 where
-  unread : (c : ℕ) → (a ≡ c) ⊎ (b ≡ c) → IsNotRead cs c → LackingPrinted cs n a b (line n 18 0 0 0)
-  lacking : IsRead cs a → IsRead cs b → LackingPrinted cs n a b (line n 15 0 0 0)
+-- the answer of an operation on columns a and b that is not built: 18 where one of them is not read, else 15
+abbrev pub LackingAnswered : List ColumnRecord → ℕ → ℕ → Result Lengths JobError → Type 0
+LackingAnswered cs a b (Ok m) = ⊥
+LackingAnswered cs a b (Err (Memory e)) = Unit {0}
+LackingAnswered cs a b (Err (Fault NoRecord)) = ⊥
+LackingAnswered cs a b (Err (Fault NotRead)) = (c : ℕ) × ((a ≡ c) ⊎ (b ≡ c)) × IsNotRead cs c
+LackingAnswered cs a b (Err (Fault File)) = ⊥
+LackingAnswered cs a b (Err (Fault (NoColumn f))) = ⊥
+LackingAnswered cs a b (Err (Fault (Kind Lacks))) = IsRead cs a × IsRead cs b
+LackingAnswered cs a b (Err (Fault (Kind (Measure f)))) = ⊥
 
 -- what the operation x adds; a column record is none, and adds nothing
 abbrev pub OperatePrinted : List ColumnRecord → ℕ → Record → List ℕ → List ℕ → Type 0

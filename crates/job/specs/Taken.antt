@@ -1,33 +1,23 @@
 -- Column records as they are taken.
-use Rattle.std.specs.Prelude.{◌≡◌, ℕ, Bool, true, List, ◌++◌, Some, None, Option}
+use Rattle.std.specs.Prelude.{◌≡◌, ℕ, List, ◌++◌, Some, Option}
 use Rattle.columns.specs.Faults as columns
-use Rattle.columns.specs.declared.fault.ColumnFault.{ColumnFault}
+use Rattle.kinds.specs.Faults as kinds
 use Rattle.records.specs.Formats.{letters, Lawful}
 use Rattle.records.specs.Layout.{GivenRow, Laid}
 use Rattle.records.specs.declared.format.Format.{Format}
 use Rattle.job.specs.declared.entry.Entry.{Entry}
 use Rattle.job.specs.declared.fault.JobFault.{JobFault}
-use Rattle.job.specs.declared.fault.JobFault.TheVariants.{Column}
-use Rattle.job.specs.Faults.{number}
-use Rattle.job.specs.Transcript.{AllText, ColumnAnswer, answer_line}
+use Rattle.job.specs.declared.fault.JobFault.TheVariants.{Record, NotRead, File, Column, Kind}
+use Rattle.job.specs.Transcript.{ColumnAnswer, answer_line}
 
--- whether a column of these rows is made: it is unless it is text and a row is no text
-abbrev pub Checked : Bool → List GivenRow → Option ColumnFault → Type 0
-Checked text rs None = text ≡ true → AllText rs
-Checked text rs (Some f) = (text ≡ true) × (AllText rs → ⊥) × (columns.number f ≡ 4)
-
--- a column's fault as the job's
-abbrev pub in_column : Option ColumnFault → Option JobFault
-in_column None = None
-in_column (Some f) = Some (Column f)
-
--- a fault by its number
-abbrev pub numbered : Option JobFault → Option ℕ
-numbered None = None
-numbered (Some f) = Some (number f)
-
-abbrev pub answered_line : Option JobFault → List ℕ
-answered_line a = answer_line (numbered a)
+-- a column record of this format and rows part meets this fault: 17 where the part is not laid out as rows, else what making
+-- the column answers
+abbrev pub Meets : Format → List ℕ → JobFault → Type 0
+Meets x part Record = (rs : List GivenRow) → Laid part rs → ⊥
+Meets x part NotRead = ⊥
+Meets x part File = ⊥
+Meets x part (Column f) = (rs : List GivenRow) × Laid part rs × ColumnAnswer x rs (Some (columns.number f))
+Meets x part (Kind f) = (rs : List GivenRow) × Laid part rs × ColumnAnswer x rs (Some (kinds.number f))
 
 -- these letters are no format, or this part is not laid out as rows
 abbrev pub NotListed : List ℕ → List ℕ → Type 0
@@ -39,7 +29,7 @@ pub record Taken (ls part : List ℕ) (e : Entry) (before after : List ℕ) : Ty
   pub answer : Option ℕ
   pub lawful : Lawful e.format
   pub spelt : ls ≡ letters e.format
-  pub kept : e.part.now ≡ part
+  pub kept : e.part.bytes.now ≡ part
   pub laid : Laid part rows
   pub answered : ColumnAnswer e.format rows answer
   pub printed : after ≡ before ++ answer_line answer

@@ -1,12 +1,17 @@
 // Column records that a job has taken.
-ghost use Rattle.std.specs.Prelude.{◌≡◌, ℕ, List, length as size, MatchOption};
+ghost use Rattle.std.specs.Prelude.{◌≡◌, ℕ, List, MatchOption, MatchResult};
 ghost use Rattle.job.specs.declared.column.OffsetFormat.{OffsetFormat as Built};
+ghost use Rattle.job.specs.declared.fault.JobFault.TheVariants.{NotRead as IsUnread};
+ghost use Rattle.job.specs.Faults.{OnFault};
 ghost use Rattle.job.specs.Measured.{ColumnMeasured};
+ghost use Rattle.job.specs.Printed.{IsRead};
 ghost use Rattle.job.specs.States.{records_of, Has};
+ghost use Rattle.job.specs.Transcript.{IsNotRead};
 
-use crate::column::{OffsetFormat, built, measure_part};
-use crate::fault::JobFault;
+use crate::column::{OffsetFormat, built};
+use crate::fault::{JobError, JobFault};
 use crate::lengths::Lengths;
+use crate::part::Part;
 use kernels::length::Unit;
 use records::format::Format;
 use std::alloc::Global;
@@ -15,42 +20,43 @@ use std::alloc::Global;
 #[derive(Clone, Copy)]
 pub struct Entry<'a> {
     pub format: Format,
-    pub part: &'a [u8],
+    pub part: Part<'a>,
 }
 
-// The format and the rows part of a column, where its format is built.
-fn find<'a>(columns: &[Entry<'a>], column: u16) -> Option<(OffsetFormat, &'a [u8])>
-    ensures { MatchOption result ((f : Built) (part : List ℕ) → Has (records_of columns.now) column f part → ⊥)
-        (λ p. Has (records_of columns.now) column p.0 p.1.now) }
-{
-    let k = column as usize;
-    if k >= columns.len() {
-        return None;
-    }
-    let part = columns[k].part;
-    if part.len() > 65_536 {
-        return None;
-    }
-    let Some(format) = built(columns[k].format) else {
-        return None;
-    };
-    Some((format, part))
+/// The column records that a job has taken, and the memory in which their columns are made.
+#[derive(Clone, Copy)]
+pub struct Columns<'c, 'a> {
+    pub heap: Global,
+    pub entries: &'c [Entry<'a>],
 }
 
-/// The lengths of a column of a job. Refuses by 18 where it is not read, and by 12 where it has more rows than 4,096.
-pub fn measure_column(
-    heap: Global,
-    columns: &[Entry<'_>],
-    column: u16,
-    unit: Unit,
-) -> Result<Lengths, JobFault>
-    ensures { ColumnMeasured unit (records_of columns.now) column result }
-{
-    let Some((format, part)) = find(columns, column) else {
-        return Err(JobFault::NotRead);
-    };
-    match measure_part(heap, format, part, unit) {
-        Ok(lengths) => Ok(lengths),
-        Err(fault) => Err(fault.unread()),
+impl<'a> Columns<'_, 'a> {
+    // The format and the rows part of a column, where its format is built.
+    fn find(&self, column: u16) -> Option<(OffsetFormat, Part<'a>)>
+        ensures { MatchOption result ((f : Built) (part : List ℕ) → Has (records_of self.now.entries.now) column f part → ⊥)
+            (λ p. Has (records_of self.now.entries.now) column p.0 p.1.bytes.now) }
+    {
+        let entry = self.entries.get(usize::from(column))?;
+        let format = built(entry.format)?;
+        Some((format, entry.part))
+    }
+
+    /// Whether a column of a job is read. Refuses by 18 where it is not.
+    pub(crate) fn check(&self, column: u16) -> Result<(), JobError>
+        ensures { MatchResult result (λ _. IsRead (records_of self.now.entries.now) column)
+            (OnFault (λ f. (f ≡ IsUnread) × IsNotRead (records_of self.now.entries.now) column)) }
+    {
+        let (format, part) = self.find(column).ok_or(JobFault::NotRead)?;
+        format.check(self.heap, part).map_err(JobError::unread)
+    }
+
+    /// The lengths of a column of a job. Refuses by 18 where it is not read, and by 12 where it has more rows than 4,096.
+    pub fn measure(&self, column: u16, unit: Unit) -> Result<Lengths, JobError>
+        ensures { ColumnMeasured unit (records_of self.now.entries.now) column result }
+    {
+        let (format, part) = self.find(column).ok_or(JobFault::NotRead)?;
+        format
+            .measure(self.heap, part, unit)
+            .map_err(JobError::unread)
     }
 }

@@ -1,21 +1,20 @@
-// Why a job's operation, column or file is refused.
-ghost use Rattle.std.specs.Prelude.{◌≡◌};
+// Why a job's operation, column or file is refused, and why a job cannot go on.
+ghost use Rattle.std.specs.Prelude.{◌≡◌, alloc_error};
 ghost use Rattle.columns.specs.Faults.{number as column_fault_number};
 ghost use Rattle.kinds.specs.Faults.{number as kind_fault_number};
-ghost use Rattle.job.specs.Faults.{number as fault_number, unread_of, read_answer, making_answer};
-ghost use Rattle.job.specs.declared.fault.JobFault.TheVariants.{Memory, Record, Column, Kind};
+ghost use Rattle.job.specs.Faults.{number as fault_number, unread_of};
+ghost use Rattle.job.specs.declared.fault.JobError.TheVariants.{Memory, Fault};
+ghost use Rattle.job.specs.declared.fault.JobFault.TheVariants.{Record, Column, Kind};
 
 use columns::fault::ColumnFault;
 use kernels::length::LengthFault;
 use kinds::fault::KindFault;
 use records::record::BadRecord;
-use std::alloc::{AllocError, AllocFailed};
+use std::alloc::AllocError;
 
 /// Why a part of a job is refused. Its number stands in specs/Faults.antt.
 #[derive(Clone, Copy, PartialEq, Debug)]
 pub enum JobFault {
-    /// There is no memory. It has no number: the program stops.
-    Memory,
     /// A record is not as it should be.
     Record,
     /// A column of this number is not read yet.
@@ -28,43 +27,50 @@ pub enum JobFault {
     Kind(KindFault),
 }
 
-impl From<AllocError> for JobFault {
-    ghost from_gives = { λ _ r. r ≡ Memory };
+/// Why a part of a job has no answer: there is no memory, and the job stops, or the part is refused.
+#[derive(Clone, Copy, PartialEq, Debug)]
+pub enum JobError {
+    Memory(AllocError),
+    Fault(JobFault),
+}
 
-    fn from(_e: AllocError) -> JobFault {
-        JobFault::Memory
+impl From<AllocError> for JobError {
+    ghost from_gives = { λ e r. r ≡ Memory e };
+
+    fn from(e: AllocError) -> JobError {
+        JobError::Memory(e)
     }
 }
 
-impl<T: Drop> From<AllocFailed<T>> for JobFault {
-    ghost from_gives = { λ _ r. r ≡ Memory };
+impl From<JobFault> for JobError {
+    ghost from_gives = { λ e r. r ≡ Fault e };
 
-    fn from(_e: AllocFailed<T>) -> JobFault {
-        JobFault::Memory
+    fn from(e: JobFault) -> JobError {
+        JobError::Fault(e)
     }
 }
 
-impl From<BadRecord> for JobFault {
-    ghost from_gives = { λ _ r. r ≡ Record };
+impl From<BadRecord> for JobError {
+    ghost from_gives = { λ _ r. r ≡ Fault Record };
 
-    fn from(_e: BadRecord) -> JobFault {
-        JobFault::Record
+    fn from(_e: BadRecord) -> JobError {
+        JobError::Fault(JobFault::Record)
     }
 }
 
-impl From<ColumnFault> for JobFault {
-    ghost from_gives = { λ e r. r ≡ Column e };
+impl From<ColumnFault> for JobError {
+    ghost from_gives = { λ e r. r ≡ Fault (Column e) };
 
-    fn from(e: ColumnFault) -> JobFault {
-        JobFault::Column(e)
+    fn from(e: ColumnFault) -> JobError {
+        JobError::Fault(JobFault::Column(e))
     }
 }
 
-impl From<KindFault> for JobFault {
-    ghost from_gives = { λ e r. r ≡ Kind e };
+impl From<KindFault> for JobError {
+    ghost from_gives = { λ e r. r ≡ Fault (Kind e) };
 
-    fn from(e: KindFault) -> JobFault {
-        JobFault::Kind(e)
+    fn from(e: KindFault) -> JobError {
+        JobError::Fault(JobFault::Kind(e))
     }
 }
 
@@ -89,12 +95,11 @@ fn kind_number(fault: KindFault) -> u64
 }
 
 impl JobFault {
-    /// The number that is printed for the fault; want of memory has none and answers 0.
+    /// The number that is printed for the fault.
     pub fn number(self) -> u64
         ensures { result ≡ fault_number self }
     {
         match self {
-            JobFault::Memory => 0,
             JobFault::Record => 17,
             JobFault::NotRead => 18,
             JobFault::File => 19,
@@ -102,46 +107,18 @@ impl JobFault {
             JobFault::Kind(fault) => kind_number(fault),
         }
     }
+}
 
-    /// Whether the column that a measure met is read: it is where only its rows are too many. Any other fault stays one.
-    pub(crate) fn is_read(self) -> Result<bool, JobFault>
-        ensures { result ≡ read_answer self }
-    {
-        match self {
-            JobFault::Memory => Err(JobFault::Memory),
-            JobFault::Record => Err(JobFault::Record),
-            JobFault::NotRead => Ok(false),
-            JobFault::File => Err(JobFault::File),
-            JobFault::Column(fault) => Err(JobFault::Column(fault)),
-            JobFault::Kind(_) => Ok(true),
-        }
-    }
-
-    /// What a measure says of making its column: nothing where the rows are not laid out, else the fault or none.
-    pub(crate) fn in_making(self) -> Result<Option<Option<ColumnFault>>, JobFault>
-        ensures { result ≡ making_answer self }
-    {
-        match self {
-            JobFault::Memory => Err(JobFault::Memory),
-            JobFault::Record => Ok(None),
-            JobFault::NotRead => Err(JobFault::NotRead),
-            JobFault::File => Err(JobFault::File),
-            JobFault::Column(fault) => Ok(Some(Some(fault))),
-            JobFault::Kind(_) => Ok(Some(None)),
-        }
-    }
-
-    /// The fault as a later operation meets it: a column that could not be made counts as not read.
-    pub(crate) fn unread(self) -> JobFault
+impl JobError {
+    /// The error as a later operation meets it: a column that could not be made counts as not read.
+    pub(crate) fn unread(self) -> JobError
         ensures { result ≡ unread_of self }
     {
         match self {
-            JobFault::Memory => JobFault::Memory,
-            JobFault::Record => JobFault::NotRead,
-            JobFault::NotRead => JobFault::NotRead,
-            JobFault::File => JobFault::File,
-            JobFault::Column(_) => JobFault::NotRead,
-            JobFault::Kind(fault) => JobFault::Kind(fault),
+            JobError::Fault(JobFault::Record | JobFault::Column(_)) => {
+                JobError::Fault(JobFault::NotRead)
+            }
+            other => other,
         }
     }
 }

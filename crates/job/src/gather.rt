@@ -1,11 +1,21 @@
 // The lists of a column, gathered from the rows part of its record.
 
-ghost use Rattle.std.specs.Prelude.{◌≡◌, ℕ, ◌+◌, ◌*◌, ◌<◌, ◌≤◌, List, [], ◌∷◌, ◌++◌, length, pos, IfOk, vec_len, MatchOption, OnOk};
+ghost use Rattle.std.specs.Prelude.{◌≡◌, ℕ, ◌+◌, ◌*◌, ◌<◌, ◌≤◌, true, List, [], ◌∷◌, ◌++◌, length, pos, IfOk, vec_len, MatchResult, OnOk};
+ghost use Rattle.std.specs.List.{flat_map};
 ghost use Rattle.encoding.specs.Bitmap.{bit};
+ghost use Rattle.columns.specs.Faults.{number as column_fault_number};
+ghost use Rattle.job.specs.declared.fault.JobFault.TheVariants.{Record as NoRecord};
+ghost use Rattle.job.specs.Faults.{OnFault};
 ghost use Rattle.job.specs.Gathered.{Lays};
+ghost use Rattle.job.specs.Measured.{Shows};
+ghost use Rattle.job.specs.Transcript.{AllText};
 ghost use Rattle.records.specs.Layout.{GivenRow, Laid};
 
-use encoding::bitmap::write;
+use crate::fault::{JobError, JobFault};
+use crate::part::Part;
+use columns::fault::ColumnFault;
+use columns::offset_column::OffsetColumn;
+use encoding::bitmap::{Bitmap, write};
 use encoding::offset::Offset;
 use records::rows::next_row;
 use std::alloc::{AllocError, Global};
@@ -40,44 +50,67 @@ fn add_bit(validity: &mut Vec<u8>, rows: usize, valid: bool) -> Result<(), Alloc
     Ok(())
 }
 
-// Adds a row to the lists.
-fn add_row<O: Offset>(g: &mut Gathered<O>, valid: bool, bytes: &[u8]) -> Result<(), AllocError>
-    requires size { vec_len g.old.«data» + length bytes.now ≤ 65536 }
-    requires count { g.old.rows ≤ 65536 }
-    requires covered { g.old.rows ≤ 8 * vec_len g.old.validity }
-    ensures { OnOk result ((rs : List GivenRow) → Lays O.Offset.number g.old rs
-        → Lays O.Offset.number g.new (rs ++ record { valid = valid; bytes = bytes.now } ∷ [])) }
-{
-    g.data.extend_from_slice(bytes)?;
-    g.offsets.push(to_offset(g.data.len()))?;
-    add_bit(&mut g.validity, g.rows, valid)?;
-    g.rows += 1;
-    Ok(())
+impl<O: Offset> Gathered<O> {
+    // The lists of no rows.
+    fn new(heap: Global) -> Result<Gathered<O>, AllocError>
+        ensures { IfOk result (λ g. Lays O.Offset.number g []) }
+    {
+        let mut offsets = Vec::new(heap);
+        offsets.push(to_offset(0))?;
+        Ok(Gathered {
+            rows: 0,
+            offsets,
+            data: Vec::new(heap),
+            validity: Vec::new(heap),
+        })
+    }
+
+    // Adds a row to the lists.
+    fn add_row(&mut self, valid: bool, bytes: &[u8]) -> Result<(), AllocError>
+        requires size { vec_len self.old.«data» + length bytes.now ≤ 65536 }
+        requires count { self.old.rows ≤ 65536 }
+        requires covered { self.old.rows ≤ 8 * vec_len self.old.validity }
+        ensures { OnOk result ((rs : List GivenRow) → Lays O.Offset.number self.old rs
+            → Lays O.Offset.number self.new (rs ++ record { valid = valid; bytes = bytes.now } ∷ [])) }
+    {
+        self.data.extend_from_slice(bytes)?;
+        self.offsets.push(to_offset(self.data.len()))?;
+        add_bit(&mut self.validity, self.rows, valid)?;
+        self.rows += 1;
+        Ok(())
+    }
+
+    /// The column over the lists. It is made unless it is text and a row is no text.
+    pub(crate) fn column(&self, text: bool) -> Result<OffsetColumn<'_>, ColumnFault>
+        ensures { (rs : List GivenRow) → Lays O.Offset.number self.now rs → length rs ≤ 65536 → length (flat_map (λ r. r.bytes) rs) ≤ 65536
+            → MatchResult result (λ c. (text ≡ true → AllText rs) × Shows O.Offset.ceiling rs c)
+            (λ f. (text ≡ true) × (AllText rs → ⊥) × (column_fault_number f ≡ 4)) }
+    {
+        let map = Bitmap {
+            bytes: self.validity.as_slice(),
+            start: 0,
+        };
+        OffsetColumn::new(
+            text,
+            self.rows,
+            O::lend(self.offsets.as_slice()),
+            self.data.as_slice(),
+            Some(map),
+        )
+    }
 }
 
-/// The lists over which the rows of a record stand, or nothing where its rows part is not laid out as rows.
-pub(crate) fn gather<O: Offset>(
-    heap: Global,
-    part: &[u8],
-) -> Result<Option<Gathered<O>>, AllocError>
-    requires { length part.now ≤ 65536 }
-    ensures { IfOk result (λ o. MatchOption o ((rs : List GivenRow) → Laid part.now rs → ⊥)
-        (λ g. (rs : List GivenRow) × Laid part.now rs × Lays O.Offset.number g rs)) }
+/// The lists over which the rows of a record stand. Refuses by 17 a part that is not laid out as rows.
+pub(crate) fn gather<O: Offset>(heap: Global, part: Part<'_>) -> Result<Gathered<O>, JobError>
+    ensures { MatchResult result (λ g. (rs : List GivenRow) × Laid part.entry.bytes.now rs × Lays O.Offset.number g rs)
+        (OnFault (λ f. (f ≡ NoRecord) × ((rs : List GivenRow) → Laid part.entry.bytes.now rs → ⊥))) }
 {
-    let mut g = Gathered {
-        rows: 0,
-        offsets: Vec::new(heap),
-        data: Vec::new(heap),
-        validity: Vec::new(heap),
-    };
-    g.offsets.push(to_offset(0))?;
-    let mut rest = part;
-    while rest.len() > 0 {
-        let Some((valid, bytes, after)) = next_row(rest) else {
-            return Ok(None);
-        };
-        add_row(&mut g, valid, bytes)?;
+    let mut lists = Gathered::new(heap)?;
+    let mut rest = part.bytes;
+    while !rest.is_empty() {
+        let (valid, bytes, after) = next_row(rest).ok_or(JobFault::Record)?;
+        lists.add_row(valid, bytes)?;
         rest = after;
     }
-    Ok(Some(g))
+    Ok(lists)
 }

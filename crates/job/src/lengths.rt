@@ -4,7 +4,7 @@ ghost use Rattle.columns.specs.OffsetColumn.{lists_of};
 ghost use Rattle.kinds.specs.Lengths.{room};
 ghost use Rattle.job.specs.Measured.{null_rows, MeasuredAs};
 
-use crate::fault::JobFault;
+use crate::fault::JobError;
 use columns::measure::Measure;
 use columns::offset_column::OffsetColumn;
 use columns::source::Source;
@@ -74,7 +74,7 @@ pub(crate) fn lengths_of(
     unit: Unit,
     narrow: &mut [i32],
     wide: &mut [i64],
-) -> Result<Lengths, JobFault>
+) -> Result<Lengths, JobError>
     requires places { (size narrow.old ≡ 4096) × (size wide.old ≡ 4096) }
     ensures { MeasuredAs unit (lists_of column.now) result }
 {

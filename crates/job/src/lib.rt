@@ -7,6 +7,7 @@ pub mod fault;
 pub mod gather;
 pub mod lengths;
 pub mod operate;
+pub mod part;
 pub mod print;
 pub mod run;
 pub mod taking;

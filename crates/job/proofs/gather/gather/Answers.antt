@@ -1,47 +1,32 @@
 -- The rows that are read stand in the lists, and what is left follows them.
-use Rattle.std.proofs.Common.{[], ◌∷◌, ◌++◌, refl, ap, ◌∙◌, arith}
-use Rattle.job.proofs.Growing.{taken_none, taken_more, taken_all, taken_never, row_fits}
+use Rattle.std.proofs.Common.{[], ◌∷◌, ◌++◌, arith}
+use Rattle.std.proofs.lemmas.Bool.Decides.{nat_tests}
+use Rattle.std.proofs.lemmas.Option.{MatchOption-at_none, MatchOption-at_some}
+use Rattle.std.proofs.lemmas.Result.{err_from_is_err_and}
+use Rattle.job.proofs.Growing.{taken_more, taken_all, taken_never}
+use Rattle.job.proofs.Refusing.{refused_none, given_some}
 use Rattle.job.proofs.gather.gather.Goals as goal
 
-pub loop-rest-init : goal.loop-rest-init
-loop-rest-init g c = (
-  [],
-  taken_none g.O.Offset.number c.args.part.now
-      (record { rows = 0; offsets = c.push.new.self; «data» = c.new-2.result; validity = c.new-3.result })
-      c.to_offset.result refl
-      (c.in_ok-push.ensures.items ∙ ap (λ l. l ++ c.to_offset.result ∷ []) c.new.ensures.items)
-      c.to_offset.ensures c.new-2.ensures.items,
-)
-
-pub returns-in_default : goal.returns-in_default
-returns-in_default g c =
-    taken_never g.O.Offset.number c.args.part.now c.loop-rest.rest.now c.loop-rest.g c.loop-rest.invariant.0 c.loop-rest.invariant.1
-    (omega arith) c.in_default.ensures.reads
-
-pub add_row-requires : goal.add_row-requires
-add_row-requires g c =
-    let k = c.loop-rest.invariant.1 in
-    let r = row_fits c.in-Some.valid c.in-Some.bytes.now c.in-Some.after.now c.in-Some.ensures.reads in
-    let room = k.room in
-    let few = k.few in
-    let cov = k.lays.covered in
-    let size = c.loop-rest.g.validity.ok.0 in
-    let top = c.requires in
-    record { size = omega arith; count = omega arith; covered = omega arith }
+pub returns-in_err-valid : goal.returns-in_err-valid
+returns-in_err-valid g c =
+    let p = err_from_is_err_and c.from_residual-in_err-valid.result c.from_residual-in_err-valid.ensures.1 in
+    let o = refused_none _ _ _ c.in_err-valid.ensures.value in
+    rw (p.1, p.2) (
+      o.1,
+      taken_never g.O.Offset.number c.args.part.bytes.now c.loop-rest.rest.now c.loop-rest.lists c.loop-rest.invariant.0 c.loop-rest.invariant.1
+          (grind (arith, nat_tests)) (MatchOption-at_none _ _ o.0 c.next_row.ensures.reads),
+    )
 
 pub loop-rest-preserved : goal.loop-rest-preserved
-loop-rest-preserved g c =
-    let rs = c.loop-rest.invariant.0 in
-    let k = c.loop-rest.invariant.1 in
-    let v = c.in-Some.valid in
-    let s = c.in-Some.bytes.now in (
-      rs ++ record { valid = v; bytes = s } ∷ [],
-      taken_more g.O.Offset.number c.args.part.now c.loop-rest.rest.now c.in-Some.after.now c.loop-rest.g c.add_row.new.g v s rs k
-          c.in-Some.ensures.reads (c.in_ok-add_row.ensures rs k.lays),
-    )
+loop-rest-preserved g c = (
+  c.loop-rest.invariant.0 ++ record { valid = c.in_ok-valid.valid; bytes = c.in_ok-valid.bytes.now } ∷ [],
+  taken_more g.O.Offset.number c.args.part.bytes.now c.loop-rest.rest.now c.in_ok-valid.after.now c.loop-rest.lists c.add_row.new.self
+      c.in_ok-valid.valid c.in_ok-valid.bytes.now c.loop-rest.invariant.0 c.loop-rest.invariant.1
+      (MatchOption-at_some _ _ _ (given_some _ _ _ c.in_ok-valid.ensures.value) c.next_row.ensures.reads) (c.in_ok-add_row.ensures c.loop-rest.invariant.0 c.loop-rest.invariant.1.lays),
+)
 
 pub returns : goal.returns
 returns g c =
     let rs = c.loop-rest.invariant.0 in
     let k = c.loop-rest.invariant.1 in
-    (rs, taken_all g.O.Offset.number c.args.part.now c.loop-rest.rest.now c.loop-rest.g rs k (omega arith), k.lays)
+    (rs, taken_all g.O.Offset.number c.args.part.bytes.now c.loop-rest.rest.now c.loop-rest.lists rs k (grind (arith, nat_tests)), k.lays)

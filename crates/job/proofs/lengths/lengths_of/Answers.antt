@@ -6,6 +6,7 @@ use Rattle.columns.specs.Shown.{lengths_shown}
 use Rattle.kernels.specs.Lengths.{numbers_in, over_in}
 use Rattle.kinds.specs.declared.fault.KindFault.{KindFault}
 use Rattle.kinds.proofs.Measuring.{ceiling_by}
+use Rattle.job.specs.declared.fault.JobError.TheVariants.{Fault}
 use Rattle.job.specs.declared.fault.JobFault.TheVariants.{Kind}
 use Rattle.job.specs.Measured.{MeasuredAs}
 use Rattle.job.proofs.Measuring.{room_is, refused_is, granted_is, front_is}
@@ -20,7 +21,7 @@ returns-in_err-wrapped c =
     let ws = c.args.wide.now in
     let p = err_from_is_err_and c.from_residual.result c.from_residual.ensures.1 in
     let h = refused_is u w (lengths_shown l) ns ws _ (room_is w ns ws c.requires.places.0 c.requires.places.1) c.in_err-wrapped.ensures.answer in
-    rw (p.1, p.2) (subst (λ (f : KindFault). MeasuredAs u l (Err (Kind f))) (sym h.0) h.1)
+    rw (p.1, p.2) (subst (λ (f : KindFault). MeasuredAs u l (Err (Fault (Kind f)))) (sym h.0) h.1)
 
 pub numbers_of-requires : goal.numbers_of-requires
 numbers_of-requires c =

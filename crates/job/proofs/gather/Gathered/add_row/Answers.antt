@@ -1,12 +1,12 @@
 -- The lists with a row more.
 use Rattle.std.proofs.Common.{◌+◌, pos, refl, ap, ◌∙◌}
 use Rattle.job.proofs.Growing.{lays_push}
-use Rattle.job.proofs.gather.add_row.Goals as goal
+use Rattle.job.proofs.gather.Gathered.add_row.Goals as goal
 
 pub returns : goal.returns
 returns g c =
-    lays_push g.O.Offset.number c.args.g.now
-    (record { rows = c.args.g.now.rows + 1; offsets = c.push.new.self; «data» = c.extend_from_slice.new.self; validity = c.add_bit.new.validity })
+    lays_push g.O.Offset.number c.args.self.now
+    (record { rows = c.args.self.now.rows + 1; offsets = c.push.new.self; «data» = c.extend_from_slice.new.self; validity = c.add_bit.new.validity })
     c.to_offset.result c.args.valid c.args.bytes.now refl
     c.in_ok-push.ensures.items (c.to_offset.ensures ∙ ap pos c.len.ensures) c.in_ok-extend_from_slice.ensures.items
     c.in_ok-add_bit.ensures
