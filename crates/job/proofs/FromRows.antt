@@ -1,5 +1,5 @@
 -- A column over the rows of a record.
-use Rattle.std.proofs.Common.{◌≡◌, ℕ, ◌+◌, ◌*◌, ◌<◌, ◌≤◌, Bool, true, cond, not, List, [], ◌∷◌, map, length, get_or, ℤ, Some, Ok, Err, vec_items, Result, sym, refl, ap, ◌∙◌, subst, arith, MatchResult}
+use Rattle.std.proofs.Common.{◌≡◌, ℕ, ◌+◌, ◌*◌, ◌<◌, ◌≤◌, Bool, true, cond, not, List, [], ◌∷◌, map, length, get_or, ℤ, Some, Ok, Err, vec_items, Bor, Result, sym, refl, ap, ◌∙◌, subst, arith, MatchResult}
 use Rattle.std.proofs.lemmas.List.{length-map}
 use Rattle.std.proofs.lemmas.Bool.{le-leb}
 use Rattle.encoding.specs.Bitmap.{bit}
@@ -17,10 +17,11 @@ use Rattle.columns.specs.Faults.{number}
 use Rattle.columns.specs.declared.fault.ColumnFault.{ColumnFault}
 use Rattle.columns.specs.declared.fault.ColumnFault.TheVariants.{Shape, Offset, View, Text}
 use Rattle.columns.specs.declared.offset_column.OffsetColumn.{OffsetColumn}
-use Rattle.columns.specs.Lists.{Lists, covers, valid_at, meaning_of}
-use Rattle.columns.specs.OffsetColumn.{lists_of, Granted, Refused, Made}
+use Rattle.columns.specs.declared.lists.Lists.{Lists}
+use Rattle.columns.specs.Grounds.{Refused}
+use Rattle.columns.specs.OffsetColumn.{lists_of, Granted, Made}
 use Rattle.columns.specs.Rows.{SourceRow}
-use Rattle.columns.specs.Shown.{shown, lengths_shown}
+use Rattle.columns.specs.Lists.{covers, valid_at, meaning_of, lengths_of}
 use Rattle.records.specs.Layout.{GivenRow, Laid}
 use Rattle.job.specs.declared.fault.JobError.{JobError}
 use Rattle.job.specs.declared.fault.JobError.TheVariants.{Memory, Fault}
@@ -37,7 +38,7 @@ use Rattle.job.proofs.Gathering.{stands}
 pub record Over (l : Lists) (rs : List GivenRow) : Type 0 where
   pub counted : l.rows ≡ length rs
   pub starts : numbers l.offsets ≡ starts_of 0 rs
-  pub content : l.content ≡ flat_map (λ r. r.bytes) rs
+  pub content : l.«data».now ≡ flat_map (λ r. r.bytes) rs
   pub covered : covers l.validity l.rows ≡ true
   pub bits : (k : ℕ) (d : GivenRow) → k < length rs → valid_at l.validity k ≡ (get_or rs k d).valid
   pub few : length rs ≤ 2147483647
@@ -65,8 +66,8 @@ granted_over l k rs c o q g =
       λ e i d h. subst utf8.Text (s.3 i d h) (g.texts e i (omega (arith, o.counted, h))),
       record {
         ceiling_is = ap (λ (x : Lists). ceiling_of x.offsets) g.kept ∙ q;
-        lengths_are = ap lengths_shown g.kept ∙ g.lengths ∙ map_given (meaning_of l).rows ∙ ap sizes s.2;
-        nulls_are = ap (λ (x : Lists). null_rows (shown x).rows) g.kept ∙ ap (λ m. null_rows m.rows) g.rows ∙ nulls_given (meaning_of l).rows ∙ ap nulls s.2;
+        lengths_are = g.lengths ∙ map_given (meaning_of l).rows ∙ ap sizes s.2;
+        nulls_are = ap (λ m. null_rows m.rows) g.rows ∙ nulls_given (meaning_of l).rows ∙ ap nulls s.2;
       },
     )
 
@@ -91,10 +92,10 @@ made_over l k rs (Ok c) o q h = granted_over l k rs c o q h
 made_over l k rs (Err f) o q h = refused_over l rs f o h
 
 -- the lists that were gathered hold the rows
-pub over_from : {X : Type 0} (number : X → ℤ) (g : Gathered X) (rs : List GivenRow) (text : Bool) (o : Offsets) (ds : List ℕ) (m : Bitmap)
+pub over_from : {X : Type 0} (number : X → ℤ) (g : Gathered X) (rs : List GivenRow) (text : Bool) (o : Offsets) (ds : Bor (List ℕ)) (m : Bitmap)
     → Lays number g rs → length rs ≤ 65536 → length (flat_map (λ r. r.bytes) rs) ≤ 65536 → 2147483647 ≤ ceiling_of o → numbers o ≡ map number (vec_items g.offsets)
-    → ds ≡ vec_items g.«data» → m.bytes.now ≡ vec_items g.validity → m.start ≡ 0
-    → Over (record { text = text; rows = g.rows; offsets = o; content = ds; validity = Some m }) rs
+    → ds.now ≡ vec_items g.«data» → m.bytes.now ≡ vec_items g.validity → m.start ≡ 0
+    → Over (record { text = text; rows = g.rows; offsets = o; «data» = ds; validity = Some m }) rs
 over_from number g rs text o ds m y few low k p q b z = record {
   counted = y.counted;
   starts = p ∙ y.starts;
@@ -119,14 +120,14 @@ pub part_from : (u : unit.Unit) (text : Bool) (rs : List GivenRow) (k : ℕ) (pa
     → MeasuredAs u (lists_of c) r → PartMeasured u text k part r
 part_from u text rs k part c (Ok m) h g p =
     let e = g.1.lengths_are in
-    let n : length (lengths_shown (lists_of c)) ≡ length rs = ap length e ∙ length-map rs (λ (w : GivenRow). length w.bytes) in (
+    let n : length (lengths_of (lists_of c)) ≡ length rs = ap length e ∙ length-map rs (λ (w : GivenRow). length w.bytes) in (
       rs,
       h,
       g.0,
       omega (arith, p.0, n),
       subst (λ (ls : List ℕ). Tells u k (nulls rs) ls m) e
-          (subst (λ (x : ℕ). Tells u k x (lengths_shown (lists_of c)) m) g.1.nulls_are
-          (subst (λ (x : ℕ). Tells u x (null_rows (shown (lists_of c)).rows) (lengths_shown (lists_of c)) m) g.1.ceiling_is p.1)),
+          (subst (λ (x : ℕ). Tells u k x (lengths_of (lists_of c)) m) g.1.nulls_are
+          (subst (λ (x : ℕ). Tells u x (null_rows (meaning_of (lists_of c)).rows) (lengths_of (lists_of c)) m) g.1.ceiling_is p.1)),
     )
 part_from u text rs k part c (Err (Memory m)) h g p = tt
 part_from u text rs k part c (Err (Fault Record)) h g p = absurd p

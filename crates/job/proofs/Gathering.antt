@@ -6,7 +6,8 @@ use Rattle.std.proofs.lemmas.List.Sums.{sum_by-cons, sum_by_more, sum_by-take-le
 use Rattle.std.proofs.lemmas.List.FromFn.{length-map-range_with_len, get_or-map-range_with_len}
 use Rattle.std.proofs.lemmas.Int.{ints}
 use Rattle.encoding.specs.Offsets.{numbers, ceiling_of, place, at, Right, AllRight}
-use Rattle.columns.specs.Lists.{Lists, valid_at, covers, bytes_at, row_at, meaning_of, Shaped, Ordered}
+use Rattle.columns.specs.declared.lists.Lists.{Lists}
+use Rattle.columns.specs.Lists.{valid_at, covers, bytes_at, row_at, meaning_of, Shaped, Ordered}
 use Rattle.records.specs.Layout.{GivenRow, Laid}
 use Rattle.records.specs.Layout.Laid.{none, more}
 use Rattle.job.specs.Gathered.{starts_of, given_of_row}
@@ -105,18 +106,18 @@ row_same : (v : Bool) (s : List ℕ) (r : GivenRow) → v ≡ r.valid → s ≡ 
 row_same v s r p q = λ i. record { valid = p i; bytes = q i }
 
 -- the column over the lists of rows keeps the rules, and its rows are these
-pub stands : (l : Lists) (rs : List GivenRow) → l.rows ≡ length rs → numbers l.offsets ≡ starts_of 0 rs → l.content ≡ flat_map (λ r. r.bytes) rs
+pub stands : (l : Lists) (rs : List GivenRow) → l.rows ≡ length rs → numbers l.offsets ≡ starts_of 0 rs → l.«data».now ≡ flat_map (λ r. r.bytes) rs
     → covers l.validity l.rows ≡ true → ((k : ℕ) (d : GivenRow) → k < length rs → valid_at l.validity k ≡ (get_or rs k d).valid)
     → length rs ≤ 2147483647 → length (flat_map (λ r. r.bytes) rs) ≤ ceiling_of l.offsets
-    → Shaped l × Ordered l × (map given_of_row (meaning_of l).rows ≡ rs) × ((i : ℕ) (d : GivenRow) → i < length rs → bytes_at (numbers l.offsets) l.content i ≡ (get_or rs i d).bytes)
+    → Shaped l × Ordered l × (map given_of_row (meaning_of l).rows ≡ rs) × ((i : ℕ) (d : GivenRow) → i < length rs → bytes_at (numbers l.offsets) l.«data».now i ≡ (get_or rs i d).bytes)
 unfolding meaning_of
 stands l rs n o c m v few small =
     let size = length_bytes rs in
     let all = starts_right rs (ceiling_of l.offsets) (omega arith) in
-    let end : total_of rs ≡ length l.content = sym size ∙ ap length (sym c) in
-    let ordered : Ordered l = subst (λ (os : List ℤ). AllRight os (ceiling_of l.offsets) (length l.content)) (sym o) (subst (λ (e : ℕ). AllRight (starts_of 0 rs) (ceiling_of l.offsets) e) end all) in
-    let read : (i : ℕ) (d : GivenRow) → i < length rs → bytes_at (numbers l.offsets) l.content i ≡ (get_or rs i d).bytes = λ i d h.
-    ap (λ (os : List ℤ). bytes_at os l.content i) o ∙ ap (λ (ds : List ℕ). bytes_at (starts_of 0 rs) ds i) c ∙ bytes_read rs i d h in
+    let end : total_of rs ≡ length l.«data».now = sym size ∙ ap length (sym c) in
+    let ordered : Ordered l = subst (λ (os : List ℤ). AllRight os (ceiling_of l.offsets) (length l.«data».now)) (sym o) (subst (λ (e : ℕ). AllRight (starts_of 0 rs) (ceiling_of l.offsets) e) end all) in
+    let read : (i : ℕ) (d : GivenRow) → i < length rs → bytes_at (numbers l.offsets) l.«data».now i ≡ (get_or rs i d).bytes = λ i d h.
+    ap (λ (os : List ℤ). bytes_at os l.«data».now i) o ∙ ap (λ (ds : List ℕ). bytes_at (starts_of 0 rs) ds i) c ∙ bytes_read rs i d h in
     let row : ℕ → GivenRow = λ i. given_of_row (row_at l i) in
     let long : length (map row (range_with_len 0 l.rows)) ≡ l.rows = length-map-range_with_len row 0 l.rows in (
       record { few = omega arith; counted = ap length o ∙ length_starts 0 rs ∙ ap (λ (k : ℕ). k + 1) (sym n); mapped = m },

@@ -1,9 +1,9 @@
 -- What a column's lengths are, in terms of what it shows.
 use Rattle.std.specs.Prelude.{◌≡◌, ℕ, ◌<◌, ◌≤◌, Bool, true, not, List, length, Ok, Err, vec_items, count_by, Result}
 use Rattle.encoding.specs.Offsets.{ceiling_of}
-use Rattle.columns.specs.Lists.{Lists}
+use Rattle.columns.specs.declared.lists.Lists.{Lists}
 use Rattle.columns.specs.Rows.{SourceRow}
-use Rattle.columns.specs.Shown.{shown, lengths_shown}
+use Rattle.columns.specs.Lists.{meaning_of, lengths_of}
 use Rattle.kernels.specs.Lengths.{numbers_in, over_in}
 use Rattle.kernels.specs.declared.length.LengthFault.TheVariants.{Rows}
 use Rattle.kernels.specs.declared.length.Unit as unit
@@ -33,20 +33,20 @@ pub record Tells (u : unit.Unit) (c nulls : ℕ) (ls : List ℕ) (m : Lengths) :
 
 -- measuring the column over these lists: its numbers, or 12 where it has more rows than there are places
 abbrev pub MeasuredAs : unit.Unit → Lists → Result Lengths JobError → Type 0
-MeasuredAs u l (Ok m) = (length (lengths_shown l) ≤ 4096) × Tells u (ceiling_of l.offsets) (null_rows (shown l).rows) (lengths_shown l) m
+MeasuredAs u l (Ok m) = (length (lengths_of l) ≤ 4096) × Tells u (ceiling_of l.offsets) (null_rows (meaning_of l).rows) (lengths_of l) m
 MeasuredAs u l (Err (Memory e)) = Unit {0}
 MeasuredAs u l (Err (Fault Record)) = ⊥
 MeasuredAs u l (Err (Fault NotRead)) = ⊥
 MeasuredAs u l (Err (Fault File)) = ⊥
 MeasuredAs u l (Err (Fault (Column f))) = ⊥
 MeasuredAs u l (Err (Fault (Kind Lacks))) = ⊥
-MeasuredAs u l (Err (Fault (Kind (Length Rows)))) = 4096 < length (lengths_shown l)
+MeasuredAs u l (Err (Fault (Kind (Length Rows)))) = 4096 < length (lengths_of l)
 
 -- the column c shows the rows rs, in the width up to k
 pub record Shows (k : ℕ) (rs : List GivenRow) (c : OffsetColumn) : Type 0 where
   pub ceiling_is : ceiling_of (lists_of c).offsets ≡ k
-  pub lengths_are : lengths_shown (lists_of c) ≡ sizes rs
-  pub nulls_are : null_rows (shown (lists_of c)).rows ≡ nulls rs
+  pub lengths_are : lengths_of (lists_of c) ≡ sizes rs
+  pub nulls_are : null_rows (meaning_of (lists_of c)).rows ≡ nulls rs
 
 -- making the column of a record, text or not, whose rows part this is: 17 where the part is not laid out as rows, 4 where a
 -- row of a text column is no text

@@ -11,13 +11,14 @@ ghost use Rattle.job.specs.Measured.{Shows};
 ghost use Rattle.job.specs.Transcript.{AllText};
 ghost use Rattle.records.specs.Layout.{GivenRow, Laid};
 
-use crate::fault::{JobError, JobFault};
+use crate::fault::JobError;
 use crate::part::Part;
 use columns::fault::ColumnFault;
+use columns::lists::Lists;
 use columns::offset_column::OffsetColumn;
 use encoding::bitmap::{Bitmap, write};
 use encoding::offset::Offset;
-use records::rows::next_row;
+use records::rows::{Row, next_row};
 use std::alloc::{AllocError, Global};
 
 /// The lists of a column, gathered from the rows part of its record.
@@ -66,16 +67,16 @@ impl<O: Offset> Gathered<O> {
     }
 
     // Adds a row to the lists.
-    fn add_row(&mut self, valid: bool, bytes: &[u8]) -> Result<(), AllocError>
-        requires size { vec_len self.old.«data» + length bytes.now ≤ 65536 }
+    fn add_row(&mut self, row: Row<'_>) -> Result<(), AllocError>
+        requires size { vec_len self.old.«data» + length row.bytes.now ≤ 65536 }
         requires count { self.old.rows ≤ 65536 }
         requires covered { self.old.rows ≤ 8 * vec_len self.old.validity }
         ensures { OnOk result ((rs : List GivenRow) → Lays O.Offset.number self.old rs
-            → Lays O.Offset.number self.new (rs ++ record { valid = valid; bytes = bytes.now } ∷ [])) }
+            → Lays O.Offset.number self.new (rs ++ record { valid = row.entry.valid; bytes = row.entry.bytes.now } ∷ [])) }
     {
-        self.data.extend_from_slice(bytes)?;
+        self.data.extend_from_slice(row.bytes)?;
         self.offsets.push(to_offset(self.data.len()))?;
-        add_bit(&mut self.validity, self.rows, valid)?;
+        add_bit(&mut self.validity, self.rows, row.valid)?;
         self.rows += 1;
         Ok(())
     }
@@ -90,13 +91,13 @@ impl<O: Offset> Gathered<O> {
             bytes: self.validity.as_slice(),
             start: 0,
         };
-        OffsetColumn::new(
+        OffsetColumn::new(Lists {
             text,
-            self.rows,
-            O::lend(self.offsets.as_slice()),
-            self.data.as_slice(),
-            Some(map),
-        )
+            rows: self.rows,
+            offsets: O::lend(self.offsets.as_slice()),
+            data: self.data.as_slice(),
+            validity: Some(map),
+        })
     }
 }
 
@@ -108,8 +109,8 @@ pub(crate) fn gather<O: Offset>(heap: Global, part: Part<'_>) -> Result<Gathered
     let mut lists = Gathered::new(heap)?;
     let mut rest = part.bytes;
     while !rest.is_empty() {
-        let (valid, bytes, after) = next_row(rest).ok_or(JobFault::Record)?;
-        lists.add_row(valid, bytes)?;
+        let (row, after) = next_row(rest)?;
+        lists.add_row(row)?;
         rest = after;
     }
     Ok(lists)

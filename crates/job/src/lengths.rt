@@ -7,6 +7,7 @@ ghost use Rattle.job.specs.Measured.{null_rows, MeasuredAs};
 use crate::fault::JobError;
 use columns::measure::Measure;
 use columns::offset_column::OffsetColumn;
+use columns::rows::Rows;
 use columns::source::Source;
 use kernels::length::Unit;
 use kinds::column::Column;
@@ -26,16 +27,7 @@ pub struct Lengths {
 pub(crate) fn count_nulls<S: Source>(source: &S) -> usize
     ensures { result ≡ null_rows (S.Source.meaning source.now).rows }
 {
-    let mut n = 0;
-    for i in 0..source.count() {
-        let Some(row) = source.row(i) else {
-            return n;
-        };
-        if !row.valid {
-            n += 1;
-        }
-    }
-    n
+    Rows::new(source).filter(|row| !row.valid).count()
 }
 
 // The numbers of a 32-bit list in 64 bits.

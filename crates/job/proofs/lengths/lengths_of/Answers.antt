@@ -2,7 +2,7 @@ use Rattle.std.proofs.Common.{ℕ, Bool, cond, length, take, Err, sym, ap, ◌�
 use Rattle.std.proofs.lemmas.Result.{err_from_is_err_and}
 use Rattle.encoding.specs.Offsets.{wide_of}
 use Rattle.columns.specs.OffsetColumn.{lists_of}
-use Rattle.columns.specs.Shown.{lengths_shown}
+use Rattle.columns.specs.Lists.{lengths_of}
 use Rattle.kernels.specs.Lengths.{numbers_in, over_in}
 use Rattle.kinds.specs.declared.fault.KindFault.{KindFault}
 use Rattle.kinds.proofs.Measuring.{ceiling_by}
@@ -20,7 +20,7 @@ returns-in_err-wrapped c =
     let ns = c.args.narrow.now in
     let ws = c.args.wide.now in
     let p = err_from_is_err_and c.from_residual.result c.from_residual.ensures.1 in
-    let h = refused_is u w (lengths_shown l) ns ws _ (room_is w ns ws c.requires.places.0 c.requires.places.1) c.in_err-wrapped.ensures.answer in
+    let h = refused_is u w (lengths_of l) ns ws _ (room_is w ns ws c.requires.places.0 c.requires.places.1) c.in_err-wrapped.ensures.answer in
     rw (p.1, p.2) (subst (λ (f : KindFault). MeasuredAs u l (Err (Fault (Kind f)))) (sym h.0) h.1)
 
 pub numbers_of-requires : goal.numbers_of-requires
@@ -30,7 +30,7 @@ numbers_of-requires c =
     let w = wide_of l.offsets in
     let ns = c.args.narrow.now in
     let ws = c.args.wide.now in
-    let h = granted_is u w (lengths_shown l) ns ws _ (room_is w ns ws c.requires.places.0 c.requires.places.1) c.in_ok-wrapped.ensures.answer in
+    let h = granted_is u w (lengths_of l) ns ws _ (room_is w ns ws c.requires.places.0 c.requires.places.1) c.in_ok-wrapped.ensures.answer in
     let r = room_is c.is_wide-is_wide.result c.measure.new.narrow c.measure.new.wide (c.measure.auto.narrow ∙ c.requires.places.0) (c.measure.auto.wide ∙ c.requires.places.1) in
     omega (arith, h.1, r, c.len-rows.ensures)
 
@@ -44,7 +44,7 @@ returns c =
     let l = lists_of c.args.column.now in
     let u = c.args.unit in
     let w = wide_of l.offsets in
-    let ls = lengths_shown l in
+    let ls = lengths_of l in
     let ns = c.args.narrow.now in
     let ws = c.args.wide.now in
     let k = c.in_ok-wrapped.ensures in
