@@ -1,38 +1,33 @@
 // Vectors of the crate `encoding`.
 use crate::words::{first_word, last_word, read_bytes};
-use anyhow::anyhow;
+use anyhow::{anyhow, bail};
+use encoding::offset::Offset;
 use encoding::{bits, utf8};
 use std::alloc::Global;
 
 // What a reader says of a row: how many characters it has, or where the first unreadable one begins.
-#[derive(Clone, Copy, PartialEq)]
-enum Reading {
-    Text(usize),
-    Bad(usize),
-}
+type Reading = Result<usize, usize>;
 
 fn expected(answer: &str) -> anyhow::Result<Reading> {
     let (word, number) = first_word(answer);
     let n = number.parse::<usize>()?;
     match word {
-        "ok" => Ok(Reading::Text(n)),
-        "bad" => Ok(Reading::Bad(n)),
+        "ok" => Ok(Ok(n)),
+        "bad" => Ok(Err(n)),
         _ => Err(anyhow!("neither ok nor bad")),
     }
 }
 
 fn our_reading(row: &[u8]) -> Reading {
-    match utf8::check(row) {
-        Ok(()) => Reading::Text(utf8::count(row)),
-        Err(fault) => Reading::Bad(fault.place),
-    }
+    utf8::check(row)
+        .map(|()| utf8::count(row))
+        .map_err(|fault| fault.place)
 }
 
 fn std_reading(row: &[u8]) -> Reading {
-    match std::str::from_utf8(row) {
-        Ok(text) => Reading::Text(text.chars().count()),
-        Err(fault) => Reading::Bad(fault.valid_up_to()),
-    }
+    std::str::from_utf8(row)
+        .map(|text| text.chars().count())
+        .map_err(|fault| fault.valid_up_to())
 }
 
 pub(crate) fn utf8_agrees(heap: Global, asked: &str, answer: &str) -> anyhow::Result<bool> {
@@ -47,16 +42,15 @@ pub(crate) fn exact_agrees(asked: &str, answer: &str) -> anyhow::Result<bool> {
     Ok(bits::exact(bytes) == wanted)
 }
 
-// The product in 32 or 64 bits, and whether it fits.
-fn product(width: &str, bytes: u64) -> Option<(i64, bool)> {
-    match width {
-        "32" => Some((
-            i64::from(bits::wrapped_bits::<i32>(bytes)),
-            bits::fits::<i32>(bytes),
-        )),
-        "64" => Some((bits::wrapped_bits::<i64>(bytes), bits::fits::<i64>(bytes))),
-        _ => None,
-    }
+// The product in a width, and the word for whether it fits there.
+fn product<O: Offset + Into<i64>>(bytes: u64) -> (i64, &'static str) {
+    let number = bits::wrapped_bits::<O>(bytes).into();
+    let word = if bits::fits::<O>(bytes) {
+        "fits"
+    } else {
+        "wraps"
+    };
+    (number, word)
 }
 
 pub(crate) fn bits_agree(asked: &str, answer: &str) -> anyhow::Result<bool> {
@@ -64,11 +58,12 @@ pub(crate) fn bits_agree(asked: &str, answer: &str) -> anyhow::Result<bool> {
     let (width, rest) = first_word(answer);
     let (number, word) = first_word(rest);
     let wanted = number.parse::<i64>()?;
-    let Some((value, fits)) = product(width, bytes) else {
-        return Err(anyhow!("no width"));
+    let said = match width {
+        "32" => product::<i32>(bytes),
+        "64" => product::<i64>(bytes),
+        _ => bail!("no width"),
     };
-    let said = if fits { "fits" } else { "wraps" };
-    Ok(value == wanted && word == said)
+    Ok(said.0 == wanted && said.1 == word)
 }
 
 pub(crate) fn boundary_agrees(heap: Global, asked: &str, answer: &str) -> anyhow::Result<bool> {

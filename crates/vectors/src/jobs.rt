@@ -1,6 +1,5 @@
 // Vectors of whole jobs.
 use crate::words::read_bytes;
-use anyhow::anyhow;
 use job::run::run;
 use std::alloc::Global;
 
@@ -11,23 +10,15 @@ fn read_lines(heap: Global, answer: &str) -> anyhow::Result<String> {
         return Ok(text);
     }
     for line in answer.split('|') {
-        text.push_str(line.trim())?;
-        text.push('\n')?;
+        let line = line.trim();
+        writeln!(text, "{line}")?;
     }
     Ok(text)
 }
 
-// What a job prints.
-fn transcript(heap: Global, file: &[u8]) -> anyhow::Result<String> {
-    match run(heap, file) {
-        Ok(text) => Ok(text),
-        Err(_) => Err(anyhow!("no memory")),
-    }
-}
-
 fn prints(heap: Global, file: &[u8], answer: &str) -> anyhow::Result<bool> {
     let wanted = read_lines(heap, answer)?;
-    let printed = transcript(heap, file)?;
+    let printed = run(heap, file)?;
     Ok(printed.as_str() == wanted.as_str())
 }
 
@@ -62,11 +53,8 @@ fn tall_file(heap: Global, n: u16) -> anyhow::Result<Vec<u8>> {
 // The lines of more than one number.
 fn heads(heap: Global, text: &str) -> anyhow::Result<String> {
     let mut kept = String::new(heap);
-    for line in text.lines() {
-        if line.contains(' ') {
-            kept.push_str(line)?;
-            kept.push('\n')?;
-        }
+    for line in text.lines().filter(|line| line.contains(' ')) {
+        writeln!(kept, "{line}")?;
     }
     Ok(kept)
 }
@@ -75,7 +63,7 @@ fn heads(heap: Global, text: &str) -> anyhow::Result<String> {
 pub(crate) fn rows_agree(heap: Global, asked: &str, answer: &str) -> anyhow::Result<bool> {
     let n = asked.parse::<u16>()?;
     let file = tall_file(heap, n)?;
-    let printed = transcript(heap, file.as_slice())?;
+    let printed = run(heap, file.as_slice())?;
     let kept = heads(heap, printed.as_str())?;
     let wanted = read_lines(heap, answer)?;
     Ok(kept.as_str() == wanted.as_str())

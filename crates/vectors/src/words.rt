@@ -1,7 +1,10 @@
 // The words of a vector.
 use anyhow::anyhow;
 use std::alloc::Global;
+use std::num::ParseIntError;
+use std::str::FromStr;
 
+// The library's reader of hexadecimal digits takes small letters too, which a vector doesn't have.
 fn hex_digit(b: u8) -> Option<u8> {
     match b {
         b'0'..=b'9' => Some(b - b'0'),
@@ -14,21 +17,26 @@ fn hex_byte(word: &str) -> Option<u8> {
     let [a, b] = word.as_bytes() else {
         return None;
     };
-    let high = hex_digit(*a)?;
-    let low = hex_digit(*b)?;
-    high.checked_mul(16)?.checked_add(low)
+    hex_digit(*a)?.checked_mul(16)?.checked_add(hex_digit(*b)?)
 }
 
 /// The bytes that words write.
 pub(crate) fn read_bytes(heap: Global, words: &str) -> anyhow::Result<Vec<u8>> {
-    let mut list = Vec::new(heap);
-    for word in words.split_whitespace() {
-        let Some(b) = hex_byte(word) else {
-            return Err(anyhow!("no byte"));
-        };
-        list.push(b)?;
-    }
-    Ok(list)
+    words
+        .split_whitespace()
+        .map(|word| hex_byte(word).ok_or_else(|| anyhow!("no byte")))
+        .try_collect(heap)
+}
+
+/// The numbers that words write in decimal.
+pub(crate) fn read_numbers<T: FromStr<Err = ParseIntError> + Drop>(
+    heap: Global,
+    words: &str,
+) -> anyhow::Result<Vec<T>> {
+    words
+        .split_whitespace()
+        .map(|word| -> anyhow::Result<T> { Ok(word.parse::<T>()?) })
+        .try_collect(heap)
 }
 
 /// A text before and after its first colon, without the spaces around each.
@@ -39,16 +47,10 @@ pub(crate) fn halves(line: &str) -> Option<(&str, &str)> {
 
 /// A text's first word and what follows it.
 pub(crate) fn first_word(text: &str) -> (&str, &str) {
-    match text.split_once(' ') {
-        Some((word, rest)) => (word, rest),
-        None => (text, ""),
-    }
+    text.split_once(' ').unwrap_or((text, ""))
 }
 
 /// What stands before a text's last word, and that word.
 pub(crate) fn last_word(text: &str) -> (&str, &str) {
-    match text.rsplit_once(' ') {
-        Some((rest, word)) => (rest, word),
-        None => ("", text),
-    }
+    text.rsplit_once(' ').unwrap_or(("", text))
 }
