@@ -18,7 +18,7 @@ pub enum Format {
 // The greatest width.
 const MAX_WIDTH: u32 = 2_147_483_647;
 
-// The number that these digits write, if it has no spare 0 and is at most 2147483647.
+// The number that these digits write, if they have no spare 0 and it is at most 2147483647.
 fn read_width(digits: &[u8]) -> Option<u32>
     ensures { MatchOption result ((w : ℕ) → w ≤ 2147483647 → digits.now ≢ decimal w) (λ w. (w ≤ 2147483647) × (digits.now ≡ decimal w)) }
 {

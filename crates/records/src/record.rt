@@ -37,7 +37,7 @@ pub enum Record<'a> {
 #[derive(Clone, Copy, PartialEq, Debug)]
 pub struct BadRecord;
 
-// What a record is of.
+// The kinds of records.
 #[derive(Clone, Copy, PartialEq, Debug)]
 enum RecordKind {
     Column,
@@ -222,8 +222,8 @@ pub fn next_record<'a>(file: &'a [u8]) -> Result<(Record<'a>, &'a [u8]), BadReco
 {
     let (size, rest) = u32::read(file)?;
     let (kind, rest) = u16::read(rest)?;
-    let size = (size as usize).checked_sub(KIND_BYTES).ok_or(BadRecord)?;
-    let (body, rest) = rest.split_at_checked(size).ok_or(BadRecord)?;
+    let body_size = (size as usize).checked_sub(KIND_BYTES).ok_or(BadRecord)?;
+    let (body, rest) = rest.split_at_checked(body_size).ok_or(BadRecord)?;
     let kind = RecordKind::try_from(kind)?;
     Ok((read_body(kind, body)?, rest))
 }

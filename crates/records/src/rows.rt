@@ -5,9 +5,10 @@ ghost use Rattle.records.specs.Layout.{RowAt};
 
 use crate::record::{BadRecord, Number, read_mark};
 
-/// A row of a column. A null row keeps the bytes that are stored for it, so it is no `Option`.
+/// A row of a column.
 #[derive(Clone, Copy, Debug)]
 pub struct Row<'a> {
+    // A null row keeps the bytes that are stored for it, so a row is no `Option`.
     pub valid: bool,
     pub bytes: &'a [u8],
 }

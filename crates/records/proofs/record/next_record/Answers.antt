@@ -12,10 +12,10 @@ returns-in_err-kind-clause-reads c =
     MatchResult-from_err _ _ _ c.from_residual-in_err-kind.ensures.0
     (λ _ x rest h. c.in_err-kind.ensures _ _ (kind_after x c.in_ok-size.ensures h))
 
-pub returns-in_err-size-2-clause-reads : goal.returns-in_err-size-2-clause-reads
-returns-in_err-size-2-clause-reads c =
+pub returns-in_err-body_size-clause-reads : goal.returns-in_err-body_size-clause-reads
+returns-in_err-body_size-clause-reads c =
     let l : c.in_ok-size.size < 2 = grind arith in
-    MatchResult-from_err _ _ _ c.from_residual-in_err-size-2.ensures.0
+    MatchResult-from_err _ _ _ c.from_residual-in_err-body_size.ensures.0
     (λ _ x rest h. omega (arith, l, (stands_parts x c.in_ok-size.ensures c.in_ok-kind.ensures h).0))
 
 pub returns-in_err-body-clause-reads : goal.returns-in_err-body-clause-reads
