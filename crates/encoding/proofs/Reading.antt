@@ -14,7 +14,7 @@ front_of c u b h e =
 
 -- two characters at one front are the same
 pub front_same : (s : List ℕ) (m n : ℕ) → Front s m → Front s n → m ≡ n
-front_same s m n f g = front_told s m f ∙ sym (front_told s n g)
+front_same s m n f g = let a = front_told s m f in let b = front_told s n g in cc
 
 -- of two readings of one list, the longer goes on with a character where the shorter ends
 pub further : (b t : List ℕ) {i k : ℕ} {a c : List ℕ} → Chars i a → Chars k c → c ++ t ≡ a ++ b → i < k → (n : ℕ) × Front b n

@@ -104,8 +104,8 @@ char_encode u s =
       | inr l ↦ elim (cases_lt u 2048) [
         | inl h ↦ subst Char (sym (encode_2 u l h)) (utf8_2 (omega arith, omega arith) (omega arith, omega arith))
         | inr m ↦ elim (cases_lt u 65536) [
-          | inl h ↦ subst Char (sym (encode_3 u m h)) (three_from (grind (arith, nat_tests)) (grind (arith, nat_tests), grind (arith, nat_tests)) (omega arith, omega arith))
-          | inr n ↦ subst Char (sym (encode_4 u n)) (four_from (grind (arith, nat_tests)) (grind (arith, nat_tests), grind (arith, nat_tests)) (omega arith, omega arith) (omega arith, omega arith))
+          | inl h ↦ subst Char (sym (encode_3 u m h)) (three_from (omega arith, omega arith) (grind (arith, nat_tests), grind (arith, nat_tests)) (omega arith, omega arith))
+          | inr n ↦ subst Char (sym (encode_4 u n)) (four_from (omega arith, omega arith) (grind (arith, nat_tests), grind (arith, nat_tests)) (omega arith, omega arith) (omega arith, omega arith))
         ]
       ]
     ]

@@ -1,29 +1,17 @@
 -- Text, one character after the other.
-use Rattle.std.proofs.Common.{◌≡◌, ℕ, suc, ◌+◌, ◌<◌, ◌≤◌, List, [], ◌++◌, length, get_or, take, drop, sym, refl, ap, ◌∙◌, subst, append_assoc, append-nil, arith}
+use Rattle.std.proofs.Common.{◌≡◌, ℕ, suc, ◌+◌, ◌<◌, ◌≤◌, List, [], ◌++◌, length, Some, get_or, take, drop, sym, refl, ap, ◌∙◌, subst, append_assoc, append-nil, arith}
 use Rattle.std.proofs.lemmas.List.{length-take-le, get_or-take, get_or_append_left, take_at, drop_at, length-append}
-use Rattle.encoding.specs.Utf8.{Char, utf8_1, utf8_2, utf8_3a, utf8_3b, utf8_3c, utf8_3d, utf8_4a, utf8_4b, utf8_4c, Front, Chars, none, more, size_of}
-use Rattle.encoding.proofs.Chars.{char_size, one_to, two_to, three_to, four_to}
-
--- a character's size is told by its first byte
-char_told : {c : List ℕ} → Char c → length c ≡ size_of (get_or c 0 0)
-char_told (utf8_1 h) = sym (one_to (utf8_1 h))
-char_told (utf8_2 h t) = sym (two_to (utf8_2 h t)).0
-char_told (utf8_3a h k t) = sym (three_to (utf8_3a h k t)).0
-char_told (utf8_3b h k t) = sym (three_to (utf8_3b h k t)).0
-char_told (utf8_3c h k t) = sym (three_to (utf8_3c h k t)).0
-char_told (utf8_3d h k t) = sym (three_to (utf8_3d h k t)).0
-char_told (utf8_4a h k t u) = sym (four_to (utf8_4a h k t u)).0
-char_told (utf8_4b h k t u) = sym (four_to (utf8_4b h k t u)).0
-char_told (utf8_4c h k t u) = sym (four_to (utf8_4c h k t u)).0
+use Rattle.encoding.specs.Utf8.{Char, Front, Chars, none, more, size_of}
+use Rattle.encoding.proofs.Chars.{char_size, char_told}
 
 pub front_some : (s : List ℕ) (n : ℕ) → Front s n → 1 ≤ n
 front_some s n f = omega (arith, (char_size f.1).0, length-take-le n s f.0)
 
-pub front_told : (s : List ℕ) (n : ℕ) → Front s n → n ≡ size_of (get_or s 0 0)
+pub front_told : (s : List ℕ) (n : ℕ) → Front s n → Some n ≡ size_of (get_or s 0 0)
 front_told s n f =
-    sym (length-take-le n s f.0) ∙ char_told f.1 ∙ ap size_of (get_or-take n s 0 0 (front_some s n f))
+    ap Some (sym (length-take-le n s f.0)) ∙ char_told f.1 ∙ ap size_of (get_or-take n s 0 0 (front_some s n f))
 
-seam_told : (c t : List ℕ) → Char c → length c ≡ size_of (get_or (c ++ t) 0 0)
+seam_told : (c t : List ℕ) → Char c → Some (length c) ≡ size_of (get_or (c ++ t) 0 0)
 seam_told c t h = char_told h ∙ ap size_of (sym (get_or_append_left c t 0 0 (char_size h).0))
 
 pub nil_front : (n : ℕ) → Front [] n → ⊥
@@ -33,8 +21,9 @@ nil_front n f = let h = front_some [] n f in omega (arith, f.0)
 pub chars_rest : {k : ℕ} {s : List ℕ} (n : ℕ) → Chars k s → Front s n → (j : ℕ) × (k ≡ suc j) × Chars j (drop n s)
 chars_rest n none f = absurd (nil_front n f)
 chars_rest n (more {n = j} {c = c} {t = t} {s = s} h r e) f =
-    let told : length c ≡ n = seam_told c t h ∙ ap (λ (l : List ℕ). size_of (get_or l 0 0)) (sym e) ∙ sym (front_told s n f) in
-    let rest : drop n s ≡ t = ap (drop n) e ∙ drop_at c t n told in
+    let told : Some (length c) ≡ Some n = seam_told c t h ∙ ap (λ (l : List ℕ). size_of (get_or l 0 0)) (sym e) ∙ sym (front_told s n f) in
+    let same : length c ≡ n = cc in
+    let rest : drop n s ≡ t = ap (drop n) e ∙ drop_at c t n same in
     (j, refl, subst (Chars j) (sym rest) r)
 
 pub chars_front : {k : ℕ} {s : List ℕ} → Chars k s → 0 < length s → (n : ℕ) × Front s n

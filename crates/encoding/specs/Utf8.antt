@@ -1,5 +1,5 @@
 -- Text after the grammar of RFC 3629.
-use Rattle.std.specs.Prelude.{◌≡◌, ℕ, suc, ◌<◌, ◌≤◌, Bool, cond, not, ◌&&◌, ◌⊎◌, List, [], ◌∷◌, ◌++◌, length, take, drop, count_by, ◌==◌, nat_le, nat_lt, slice_index}
+use Rattle.std.specs.Prelude.{◌≡◌, ℕ, suc, ◌<◌, ◌≤◌, Bool, cond, not, ◌&&◌, ◌⊎◌, List, [], ◌∷◌, ◌++◌, length, Option, Some, None, take, drop, count_by, ◌==◌, nat_le, nat_lt, slice_index}
 
 -- b lies in lo..hi
 abbrev pub In : ℕ → ℕ → ℕ → Type 0
@@ -48,9 +48,9 @@ Reaches s k p = (p ≤ length s) × Chars k (take p s)
 abbrev pub Begins : List ℕ → ℕ → ℕ → Type 0
 Begins s k p = (a b : List ℕ) × (s ≡ a ++ b) × (length a ≡ p) × Chars k a × Text b
 
--- the size of the character that b begins, 0 where it begins none
-abbrev pub size_of : ℕ → ℕ
-size_of b = cond (nat_lt b 128) 1 (cond (nat_lt b 194) 0 (cond (nat_lt b 224) 2 (cond (nat_lt b 240) 3 (cond (nat_lt b 245) 4 0))))
+-- the size of the character that b begins, if it begins one
+abbrev pub size_of : ℕ → Option ℕ
+size_of b = cond (nat_lt b 128) (Some 1) (cond (nat_lt b 194) None (cond (nat_lt b 224) (Some 2) (cond (nat_lt b 240) (Some 3) (cond (nat_lt b 245) (Some 4) None))))
 
 -- b may be the second byte of a character of three or four bytes that a begins
 abbrev pub Second : ℕ → ℕ → Type 0

@@ -3,44 +3,29 @@ ghost use Rattle.std.specs.Prelude.{◌≡◌, ℕ, ◌<◌, ◌≤◌, [], ◌�
 ghost use Rattle.encoding.specs.Scalars.{Rfc3629};
 ghost use Rattle.encoding.specs.Utf8.{Text, size_of, Char, Front, Tail, Second, Chars, Begins, Reaches, Unreadable, Boundary, Boundaries, first_bytes};
 
-// The size of the character that each first byte begins, 0 where it begins none.
-#[rattlefmt::skip]
-const SIZES: [u8; 256] = [
-    1, 1, 1, 1, 1, 1, 1, 1, 1, 1, 1, 1, 1, 1, 1, 1,
-    1, 1, 1, 1, 1, 1, 1, 1, 1, 1, 1, 1, 1, 1, 1, 1,
-    1, 1, 1, 1, 1, 1, 1, 1, 1, 1, 1, 1, 1, 1, 1, 1,
-    1, 1, 1, 1, 1, 1, 1, 1, 1, 1, 1, 1, 1, 1, 1, 1,
-    1, 1, 1, 1, 1, 1, 1, 1, 1, 1, 1, 1, 1, 1, 1, 1,
-    1, 1, 1, 1, 1, 1, 1, 1, 1, 1, 1, 1, 1, 1, 1, 1,
-    1, 1, 1, 1, 1, 1, 1, 1, 1, 1, 1, 1, 1, 1, 1, 1,
-    1, 1, 1, 1, 1, 1, 1, 1, 1, 1, 1, 1, 1, 1, 1, 1,
-    0, 0, 0, 0, 0, 0, 0, 0, 0, 0, 0, 0, 0, 0, 0, 0,
-    0, 0, 0, 0, 0, 0, 0, 0, 0, 0, 0, 0, 0, 0, 0, 0,
-    0, 0, 0, 0, 0, 0, 0, 0, 0, 0, 0, 0, 0, 0, 0, 0,
-    0, 0, 0, 0, 0, 0, 0, 0, 0, 0, 0, 0, 0, 0, 0, 0,
-    0, 0, 2, 2, 2, 2, 2, 2, 2, 2, 2, 2, 2, 2, 2, 2,
-    2, 2, 2, 2, 2, 2, 2, 2, 2, 2, 2, 2, 2, 2, 2, 2,
-    3, 3, 3, 3, 3, 3, 3, 3, 3, 3, 3, 3, 3, 3, 3, 3,
-    4, 4, 4, 4, 4, 0, 0, 0, 0, 0, 0, 0, 0, 0, 0, 0,
-];
-
 /// The first unreadable character of a row begins at this byte.
 #[derive(Clone, Copy, PartialEq, Debug)]
 pub struct TextFault {
     pub place: usize,
 }
 
-/// The size of the character that b begins, or 0. Example: C3 begins two bytes, C0 none.
-pub fn char_size(b: u8) -> u8
+/// The size of the character that b begins, or nothing. Example: C3 begins two bytes, C0 none.
+pub fn char_size(b: u8) -> Option<usize>
     ensures { result ≡ size_of b }
 {
-    SIZES[b as usize]
+    match b {
+        0x00..=0x7f => Some(1),
+        0xc2..=0xdf => Some(2),
+        0xe0..=0xef => Some(3),
+        0xf0..=0xf4 => Some(4),
+        _ => None,
+    }
 }
 
 fn tail(b: u8) -> bool
     ensures { Decides result (Tail b) }
 {
-    0x80 <= b && b <= 0xbf
+    matches!(b, 0x80..=0xbf)
 }
 
 // Whether b1 may follow b0 in a character of three or four bytes.
@@ -48,36 +33,25 @@ fn second(b0: u8, b1: u8) -> bool
     ensures { Decides result (Second b0 b1) }
 {
     match b0 {
-        0xe0 => 0xa0 <= b1 && b1 <= 0xbf,
-        0xed => 0x80 <= b1 && b1 <= 0x9f,
-        0xf0 => 0x90 <= b1 && b1 <= 0xbf,
-        0xf4 => 0x80 <= b1 && b1 <= 0x8f,
-        _ => 0x80 <= b1 && b1 <= 0xbf,
+        0xe0 => matches!(b1, 0xa0..=0xbf),
+        0xed => matches!(b1, 0x80..=0x9f),
+        0xf0 => matches!(b1, 0x90..=0xbf),
+        0xf4 => matches!(b1, 0x80..=0x8f),
+        _ => tail(b1),
     }
 }
 
-fn one(b0: u8) -> bool
-    ensures { Decides result (Char (b0 ∷ [])) }
+// Whether the bytes are one character.
+fn is_char(c: &[u8]) -> bool
+    ensures { Decides result (Char c.now) }
 {
-    char_size(b0) == 1
-}
-
-fn two(b0: u8, b1: u8) -> bool
-    ensures { Decides result (Char (b0 ∷ b1 ∷ [])) }
-{
-    (char_size(b0) == 2) & tail(b1)
-}
-
-fn three(b0: u8, b1: u8, b2: u8) -> bool
-    ensures { Decides result (Char (b0 ∷ b1 ∷ b2 ∷ [])) }
-{
-    (char_size(b0) == 3) & second(b0, b1) & tail(b2)
-}
-
-fn four(b0: u8, b1: u8, b2: u8, b3: u8) -> bool
-    ensures { Decides result (Char (b0 ∷ b1 ∷ b2 ∷ b3 ∷ [])) }
-{
-    (char_size(b0) == 4) & second(b0, b1) & tail(b2) & tail(b3)
+    match *c {
+        [0x00..=0x7f] => true,
+        [0xc2..=0xdf, b] => tail(b),
+        [a @ 0xe0..=0xef, b, c] => second(a, b) && tail(c),
+        [a @ 0xf0..=0xf4, b, c, d] => second(a, b) && tail(c) && tail(d),
+        _ => false,
+    }
 }
 
 /// The size of the character at the front and what follows it, or nothing where no character can be read.
@@ -86,13 +60,9 @@ pub fn first_char(s: &[u8]) -> Option<(usize, &[u8])>
     ensures { MatchOption result ((n : ℕ) → Front s.now n → ⊥)
         (λ p. Front s.now p.0 × (p.1.now ≡ drop p.0 s.now)) }
 {
-    match s {
-        [b0, rest @ ..] if one(*b0) => Some((1, rest)),
-        [b0, b1, rest @ ..] if two(*b0, *b1) => Some((2, rest)),
-        [b0, b1, b2, rest @ ..] if three(*b0, *b1, *b2) => Some((3, rest)),
-        [b0, b1, b2, b3, rest @ ..] if four(*b0, *b1, *b2, *b3) => Some((4, rest)),
-        _ => None,
-    }
+    let n = char_size(*s.first()?)?;
+    let (c, rest) = s.split_at_checked(n)?;
+    is_char(c).then_some((n, rest))
 }
 
 /// Whether the bytes are text; else where the first unreadable character begins.
@@ -103,10 +73,8 @@ pub fn check(s: &[u8]) -> Result<(), TextFault>
 {
     let mut rest = s;
     let mut place = 0;
-    while rest.len() > 0 {
-        let Some((n, after)) = first_char(rest) else {
-            return Err(TextFault { place });
-        };
+    while !rest.is_empty() {
+        let (n, after) = first_char(rest).ok_or(TextFault { place })?;
         place += n;
         rest = after;
     }
@@ -119,13 +87,8 @@ pub fn count(s: &[u8]) -> usize
     ensures value { result ≡ first_bytes s.now }
     ensures chars { (n : ℕ) → Chars n s.now → result ≡ n }
 {
-    let mut n = 0;
-    for b in s {
-        if !tail(*b) {
-            n += 1;
-        }
-    }
-    n
+    // A sum: with `filter` and `count`, 4 MB took 3.3 ms in place of 1.4.
+    s.iter().map(|b| usize::from(!tail(*b))).sum()
 }
 
 /// The byte place after the first k characters, or nothing where so many cannot be read.
@@ -137,9 +100,7 @@ pub fn place(s: &[u8], k: usize) -> Option<usize>
     let mut rest = s;
     let mut p = 0;
     for _ in 0..k {
-        let Some((n, after)) = first_char(rest) else {
-            return None;
-        };
+        let (n, after) = first_char(rest)?;
         p += n;
         rest = after;
     }
@@ -152,11 +113,5 @@ pub fn is_boundary(s: &[u8], p: usize) -> bool
     ensures tells { Decides result (Boundary s.now p) }
     ensures law { Boundaries }
 {
-    if p == 0 {
-        return true;
-    }
-    if p >= s.len() {
-        return p == s.len();
-    }
-    !tail(s[p])
+    p == 0 || p == s.len() || s.get(p).is_some_and(|b| !tail(*b))
 }

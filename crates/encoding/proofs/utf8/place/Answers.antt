@@ -9,25 +9,24 @@ loop-init c = (refl, (omega arith, none))
 
 pub overflow_add-p : goal.overflow_add-p
 overflow_add-p c =
-    let f = c.in-Some.ensures in
     let i = c.loop.invariant in
-    omega (arith, f.0.0, i.1.0, ap length i.0, length-drop c.loop.p c.args.s.now, c.well_formed)
+    omega (arith, c.in_ok-n.ensures.0.0, i.1.0, ap length i.0, length-drop c.loop.p c.args.s.now)
 
 pub loop-preserved : goal.loop-preserved
 loop-preserved c =
-    let f = c.in-Some.ensures in
+    let f = c.in_ok-n.ensures in
     let i = c.loop.invariant in (
-      f.1 ∙ ap (drop c.in-Some.n) i.0 ∙ drop-drop c.in-Some.n c.loop.p c.args.s.now,
+      f.1 ∙ ap (drop c.in_ok-n.n) i.0 ∙ drop-drop c.in_ok-n.n c.loop.p c.args.s.now,
       reaches_more _ _ _ _ _ i.1 i.0 f.0,
     )
 
-pub returns-in_default : goal.returns-in_default
-returns-in_default c =
+pub returns-in_err-n : goal.returns-in_err-n
+returns-in_err-n c =
     let s : List ℕ = c.args.s.now in
     let i = c.loop.invariant in
     let h = reaches_none s c.loop.counter c.args.k c.loop.p i.1 c.loop-test.true
-    (λ n f. c.in_default.ensures n (subst (λ (l : List ℕ). Front l n) (sym i.0) f)) in
-    record { reads = h; text = λ n t. not_reached s n c.args.k t h }
+    (λ n f. c.in_err-n.ensures n (subst (λ (l : List ℕ). Front l n) (sym i.0) f)) in
+    rw c.from_residual.ensures (record { reads = h; text = λ n t. not_reached s n c.args.k t h })
 
 pub returns : goal.returns
 returns c =
