@@ -1,5 +1,5 @@
 -- What a column's lengths are, in terms of what it shows.
-use Rattle.std.specs.Prelude.{◌≡◌, ℕ, ◌<◌, ◌≤◌, Bool, true, not, List, length, Ok, Err, vec_items, count_by, Result}
+use Rattle.std.specs.Prelude.{◌≡◌, ℕ, ◌<◌, ◌≤◌, Bool, true, not, List, [], length, Ok, Err, vec_items, count_by, Result, slice_index_or}
 use Rattle.encoding.specs.Offsets.{ceiling_of}
 use Rattle.columns.specs.Lists.{Lists}
 use Rattle.columns.specs.Rows.{SourceRow}
@@ -19,6 +19,10 @@ use Rattle.records.specs.Layout.{Laid, GivenRow}
 use Rattle.job.specs.declared.column.OffsetFormat.{OffsetFormat}
 use Rattle.job.specs.declared.lengths.Lengths.{Lengths}
 use Rattle.job.specs.Transcript.{ColumnRecord, AllText, Read, IsNotRead, nulls, sizes}
+
+-- whether row i is null; none is from the row count on
+abbrev pub null_at : List SourceRow → ℕ → Bool
+null_at rs i = not (slice_index_or rs i (record { valid = true; bytes = []; base = 0 })).valid
 
 -- how many rows are null
 abbrev pub null_rows : List SourceRow → ℕ

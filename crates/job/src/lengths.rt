@@ -2,7 +2,7 @@
 ghost use Rattle.std.specs.Prelude.{◌≡◌, ℕ, ◌<◌, ◌≤◌, cond, length as size, take, IfOk};
 ghost use Rattle.columns.specs.OffsetColumn.{lists_of};
 ghost use Rattle.kinds.specs.Lengths.{room};
-ghost use Rattle.job.specs.Measured.{null_rows, MeasuredAs};
+ghost use Rattle.job.specs.Measured.{null_at, null_rows, MeasuredAs};
 
 use crate::fault::JobError;
 use columns::measure::Measure;
@@ -22,31 +22,18 @@ pub struct Lengths {
     pub numbers: Vec<i64>,
 }
 
+// Whether row i of a source is null.
+fn is_null<S: Source>(source: &S, i: usize) -> bool
+    ensures { result ≡ null_at (S.Source.meaning source.now).rows i }
+{
+    source.row(i).is_some_and(|row| !row.valid)
+}
+
 /// How many rows of a source are null.
 pub(crate) fn count_nulls<S: Source>(source: &S) -> usize
     ensures { result ≡ null_rows (S.Source.meaning source.now).rows }
 {
-    let mut n = 0;
-    for i in 0..source.count() {
-        let Some(row) = source.row(i) else {
-            return n;
-        };
-        if !row.valid {
-            n += 1;
-        }
-    }
-    n
-}
-
-// The numbers of a 32-bit list in 64 bits.
-fn widened(heap: Global, list: &[i32]) -> Result<Vec<i64>, AllocError>
-    ensures { IfOk result (λ v. v.items ≡ list.now) }
-{
-    let mut v = Vec::new(heap);
-    for x in list {
-        v.push(*x as i64)?;
-    }
-    Ok(v)
+    (0..source.count()).filter(|i| is_null(source, *i)).count()
 }
 
 // The first numbers of the list that is meant.
@@ -61,9 +48,9 @@ fn numbers_of(
     ensures { IfOk result (λ v. v.items ≡ take rows (cond is_wide wide.now narrow.now)) }
 {
     if is_wide {
-        Vec::from_slice(heap, &wide[0..rows])
+        Vec::from_slice(heap, &wide[..rows])
     } else {
-        widened(heap, &narrow[0..rows])
+        narrow[..rows].iter().map(|n| i64::from(*n)).collect(heap)
     }
 }
 

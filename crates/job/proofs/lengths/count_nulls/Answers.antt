@@ -1,36 +1,30 @@
-use Rattle.std.proofs.Common.{◌≡◌, ℕ, ◌+◌, not, get_or, sym, ap, ◌∙◌, arith}
-use Rattle.std.proofs.lemmas.List.{take_all}
-use Rattle.std.proofs.lemmas.List.Sums.{count_by_more_yes, count_by_more_no}
-use Rattle.std.proofs.lemmas.Bool.{not_from_true, not_from_false}
-use Rattle.columns.specs.Rows.{SourceRow, row_of}
-use Rattle.job.specs.Measured.{null_rows}
-use Rattle.job.proofs.lengths.count_nulls.Goals.{then-not-row, else-not-row}
+use Rattle.std.proofs.Common.{◌≡◌, ℕ, ◌+◌, Bool, cond, not, true, List, [], ◌∷◌, map, length, get_or, rules, sym, refl, ap, ◌∙◌, arith}
+use Rattle.std.specs.List.{range_with_len, count_by}
+use Rattle.std.proofs.lemmas.Iterator.{YieldsList-from_range}
+use Rattle.std.proofs.lemmas.Iterator.Consumers.{count_from_yields_List, YieldsList-from_filter, YieldsList-at}
+use Rattle.std.proofs.lemmas.List.{same_lists, get_or_default}
+use Rattle.std.proofs.lemmas.List.FromFn.{length-map-range_with_len, get_or-map-range_with_len}
+use Rattle.std.proofs.lemmas.List.Sums.{length-filter, sum_by-cons}
+use borrow.Author.Tests.{tests}
+use Rattle.columns.specs.Rows.{SourceRow}
+use Rattle.job.specs.Measured.{null_at, null_rows}
 use Rattle.job.proofs.lengths.count_nulls.Goals as goal
 
-pub returns-in_default : goal.returns-in_default
-returns-in_default g c = absurd (omega (arith, c.in_default.ensures, c.loop-i-test.true, c.count-i-end.ensures.value))
+count_map : {X : Type 0} (p : X → Bool) (f : ℕ → X) (is : List ℕ) → count_by (λ i. p (f i)) is ≡ count_by p (map f is)
+count_map p f [] = refl
+count_map p f (i ∷ is) = sum_by-cons (λ i. cond (p (f i)) 1 0) i is ∙ ap (λ (n : ℕ). cond (p (f i)) 1 0 + n) (count_map p f is) ∙ sym (sum_by-cons (λ x. cond (p x) 1 0) (f i) (map f is))
 
-pub loop-i-preserved : goal.loop-i-preserved
-loop-i-preserved g c =
-    let rs = (g.S.Source.meaning c.args.source.now).rows in
-    let i = c.loop-i.i in
-    let v = c.loop-i.invariant in
-    let m = c.in-Some.ensures in
-    let d = row_of c.in-Some.row in
-    let at : (get_or rs i d).valid ≡ c.in-Some.row.valid = ap (λ (r : SourceRow). r.valid) (m.1 d) in (
-      elim c.if-not-row.branch [
-        | then-not-row w ↦ omega (arith, w.n-is, v.0)
-        | else-not-row w ↦ omega (arith, w.n-is, v.0)
-      ],
-      elim c.if-not-row.branch [
-        | then-not-row w ↦ w.n-is ∙ ap (λ (n : ℕ). n + 1) v.1
-            ∙ sym (count_by_more_yes (λ (r : SourceRow). not r.valid) rs i d m.0 (not_from_false _ (at ∙ w.if-not-row.true)))
-        | else-not-row w ↦ w.n-is ∙ v.1
-            ∙ sym (count_by_more_no (λ (r : SourceRow). not r.valid) rs i d m.0 (not_from_true _ (at ∙ w.if-not-row.false)))
-      ],
-    )
+each_row : {X : Type 0} (xs : List X) (d : X) (n : ℕ) → n ≡ length xs → map (λ i. get_or xs i d) (range_with_len 0 n) ≡ xs
+each_row xs d n e =
+    let m = length-map-range_with_len (λ i. get_or xs i d) 0 n in
+    same_lists _ xs (m ∙ e) (λ k q h. get_or-map-range_with_len (λ i. get_or xs i d) 0 n k k q (omega arith) (omega arith) ∙ get_or_default xs k d q (omega arith))
 
 pub returns : goal.returns
 returns g c =
     let rs = (g.S.Source.meaning c.args.source.now).rows in
-    c.loop-i.invariant.1 ∙ ap null_rows (take_all c.loop-i.i rs (omega (arith, c.loop-i-test.false, c.count-i-end.ensures.value)))
+    let n = c.count.result in
+    let d : SourceRow = record { valid = true; bytes = []; base = 0 } in
+    count_from_yields_List c.filter.result _ c.count-2.ensures.ran
+    (YieldsList-from_filter _ (null_at rs) (YieldsList-at c.filter.ensures.source (YieldsList-from_range 0 n n refl (omega arith))) c.filter.ensures.closure (λ x b q k. search (rules, tests)))
+    ∙ length-filter (null_at rs) (range_with_len 0 n)
+    ∙ count_map (λ (r : SourceRow). not r.valid) (λ i. get_or rs i d) (range_with_len 0 n) ∙ ap null_rows (each_row rs d n c.count.ensures.value)
