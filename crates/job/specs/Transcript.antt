@@ -1,5 +1,5 @@
 -- What a job prints, record by record.
-use Rattle.std.specs.Prelude.{◌≡◌, ℕ, ◌+◌, ◌<◌, ◌≤◌, Bool, true, false, not, ◌⊎◌, List, [], ◌∷◌, ◌++◌, map, length, get_or, Some, None, count_by, Option, slice_index_or}
+use Rattle.std.specs.Prelude.{◌≡◌, ℕ, ◌+◌, ◌<◌, ◌≤◌, Bool, true, false, not, ◌⊎◌, List, [], ◌∷◌, ◌++◌, map, length, Some, None, count_by, Option, slice_index_or}
 use Rattle.std.specs.List.{flat_map}
 use Rattle.encoding.specs.Utf8.{Text}
 use Rattle.kernels.specs.Lengths.{numbers_in, over_in}
@@ -32,7 +32,7 @@ built (FixedSizeBinary w) = None
 
 -- every row is text, null rows too
 abbrev pub AllText : List GivenRow → Type 0
-AllText rs = (i : ℕ) (d : GivenRow) → i < length rs → Text (get_or rs i d).bytes
+AllText rs = (i : ℕ) (d : GivenRow) → i < length rs → Text (slice_index_or rs i d).bytes
 
 -- what making the column answers: nothing where it is made, else the number of the refusal
 pub data ColumnAnswer (x : Format) (rs : List GivenRow) : Option ℕ → Type 0 where

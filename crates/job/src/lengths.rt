@@ -30,17 +30,6 @@ pub(crate) fn count_nulls<S: Source>(source: &S) -> usize
     Rows::new(source).filter(|row| !row.valid).count()
 }
 
-// The numbers of a 32-bit list in 64 bits.
-fn widened(heap: Global, list: &[i32]) -> Result<Vec<i64>, AllocError>
-    ensures { IfOk result (λ v. v.items ≡ list.now) }
-{
-    let mut v = Vec::new(heap);
-    for x in list {
-        v.push(*x as i64)?;
-    }
-    Ok(v)
-}
-
 // The first numbers of the list that is meant.
 fn numbers_of(
     heap: Global,
@@ -53,9 +42,9 @@ fn numbers_of(
     ensures { IfOk result (λ v. v.items ≡ take rows (cond is_wide wide.now narrow.now)) }
 {
     if is_wide {
-        Vec::from_slice(heap, &wide[0..rows])
+        Vec::from_slice(heap, &wide[..rows])
     } else {
-        widened(heap, &narrow[0..rows])
+        narrow[..rows].iter().map(|n| i64::from(*n)).collect(heap)
     }
 }
 
@@ -64,17 +53,14 @@ pub(crate) fn lengths_of(
     heap: Global,
     column: &OffsetColumn<'_>,
     unit: Unit,
-    narrow: &mut [i32],
-    wide: &mut [i64],
 ) -> Result<Lengths, JobError>
-    requires places { (size narrow.old ≡ 4096) × (size wide.old ≡ 4096) }
     ensures { MeasuredAs unit (lists_of column.now) result }
 {
-    let any = Column::Offset(*column);
-    let wrapped = measure(&any, unit, narrow, wide)?;
+    let mut narrow = [0i32; 4096];
+    let mut wide = [0i64; 4096];
+    let wrapped = measure(&Column::Offset(*column), unit, &mut narrow, &mut wide)?;
     let rows = column.len();
-    let is_wide = column.is_wide();
-    let numbers = numbers_of(heap, is_wide, rows, narrow, wide)?;
+    let numbers = numbers_of(heap, column.is_wide(), rows, &narrow, &wide)?;
     let nulls = count_nulls(column);
     Ok(Lengths {
         rows,

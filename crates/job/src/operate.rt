@@ -1,58 +1,39 @@
 // Operations, and what they print.
 ghost use Rattle.std.specs.Prelude.{◌≡◌, ℕ, List, ◌++◌, string_bytes, OnOk};
 ghost use Rattle.std.specs.List.{flat_map};
-ghost use Rattle.job.specs.Lines.{line, number_line};
+ghost use Rattle.job.specs.Lines.{number_line};
 ghost use Rattle.job.specs.Printed.{Prints, LackingAnswered, OperatePrinted};
 ghost use Rattle.job.specs.States.{records_of};
 
 use crate::entry::Columns;
 use crate::fault::{JobError, JobFault};
 use crate::lengths::Lengths;
-use crate::print::{put_line, put_number};
+use crate::print::Line;
 use kernels::length::Unit;
 use kinds::fault::KindFault;
 use records::record::Record;
-use std::alloc::{AllocError, Global};
+use std::alloc::AllocError;
 
 // Adds every number on a line of its own.
-fn put_numbers(heap: Global, out: &mut String, numbers: &[i64]) -> Result<(), AllocError>
+fn put_numbers(out: &mut String, numbers: &[i64]) -> Result<(), AllocError>
     ensures { OnOk result (string_bytes out.new ≡ string_bytes out.old ++ flat_map number_line numbers.now) }
 {
     for n in numbers {
-        put_number(heap, out, *n)?;
+        writeln!(out, "{n}")?;
     }
     Ok(())
 }
 
-// Adds an operation's line with its rows, nulls and wrapped rows, and then every row's number.
-fn put_lengths(heap: Global, out: &mut String, n: u64, lengths: &Lengths) -> Result<(), AllocError>
-    ensures { OnOk result (string_bytes out.new ≡ string_bytes out.old
-        ++ (line n 0 lengths.now.rows lengths.now.nulls lengths.now.wrapped ++ flat_map number_line lengths.now.numbers.items)) }
-{
-    put_line(
-        heap,
-        out,
-        n,
-        0,
-        lengths.rows as u64,
-        lengths.nulls as u64,
-        lengths.wrapped as u64,
-    )?;
-    put_numbers(heap, out, lengths.numbers.as_slice())
-}
-
 // Adds what an operation answers: its lengths, or the number of its fault. Want of memory is passed on.
-fn put_answer(
-    heap: Global,
-    out: &mut String,
-    n: u64,
-    answer: Result<Lengths, JobError>,
-) -> Result<(), AllocError>
+fn put_answer(out: &mut String, n: u64, answer: Result<Lengths, JobError>) -> Result<(), AllocError>
     ensures { OnOk result ((added : List ℕ) × (string_bytes out.new ≡ string_bytes out.old ++ added) × Prints n answer added) }
 {
     match answer {
-        Ok(lengths) => put_lengths(heap, out, n, &lengths),
-        Err(JobError::Fault(fault)) => put_line(heap, out, n, fault.number(), 0, 0, 0),
+        Ok(lengths) => {
+            writeln!(out, "{}", Line::measured(n, &lengths))?;
+            put_numbers(out, lengths.numbers.as_slice())
+        }
+        Err(JobError::Fault(fault)) => writeln!(out, "{}", Line::refused(n, fault)),
         Err(JobError::Memory(e)) => Err(e),
     }
 }
@@ -76,18 +57,13 @@ pub fn operate(
 ) -> Result<(), AllocError>
     ensures { OnOk result (OperatePrinted (records_of columns.now.entries.now) n found.entry (string_bytes out.old) (string_bytes out.new)) }
 {
-    let heap = columns.heap;
     match found {
         Record::Column { .. } => Ok(()),
         Record::Cut { column, .. } | Record::CutByCharacter { column, .. } => {
-            put_answer(heap, out, n, lacking(columns, column, column))
+            put_answer(out, n, lacking(columns, column, column))
         }
-        Record::Join { left, right } => put_answer(heap, out, n, lacking(columns, left, right)),
-        Record::Length { column } => {
-            put_answer(heap, out, n, columns.measure(column, Unit::Bytes))
-        }
-        Record::BitLength { column } => {
-            put_answer(heap, out, n, columns.measure(column, Unit::Bits))
-        }
+        Record::Join { left, right } => put_answer(out, n, lacking(columns, left, right)),
+        Record::Length { column } => { put_answer(out, n, columns.measure(column, Unit::Bytes)) }
+        Record::BitLength { column } => { put_answer(out, n, columns.measure(column, Unit::Bits)) }
     }
 }

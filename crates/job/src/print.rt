@@ -1,38 +1,77 @@
 // The lines that a job prints.
-ghost use Rattle.std.specs.Prelude.{◌≡◌, ◌++◌, string_bytes, OnOk};
-ghost use Rattle.job.specs.Lines.{line, refusal_line, number_line};
+ghost use Rattle.std.specs.Prelude.{◌≡◌, Some};
+ghost use Rattle.job.specs.Faults.{number as fault_number};
+ghost use Rattle.job.specs.Lines.{line_text, refusal_text};
 
-use std::alloc::{AllocError, Global};
+use crate::fault::JobFault;
+use crate::lengths::Lengths;
+use std::fmt;
 
-/// Adds an operation's line: its number, the refusal or 0, and three numbers. Example: `1 0 2 1 0`.
-pub(crate) fn put_line(
-    heap: Global,
-    out: &mut String,
-    n: u64,
-    refusal: u64,
-    a: u64,
-    b: u64,
-    c: u64,
-) -> Result<(), AllocError>
-    ensures { OnOk result (string_bytes out.new ≡ string_bytes out.old ++ line n refusal a b c) }
-{
-    let text = format!(in heap; "{n} {refusal} {a} {b} {c}\n")?;
-    out.push_str(text.as_str())
+/// An operation's line: its number, the refusal or 0, and how many rows, null rows and wrapped lengths it has.
+/// Example: `1 0 2 1 0`.
+#[derive(Clone, Copy, PartialEq, Debug)]
+pub struct Line {
+    pub operation: u64,
+    pub refusal: u64,
+    pub rows: usize,
+    pub nulls: usize,
+    pub wrapped: usize,
 }
 
-/// Adds a refusal that belongs to no operation. Example: `17 0 0 0`.
-pub(crate) fn put_refusal(heap: Global, out: &mut String, refusal: u64) -> Result<(), AllocError>
-    ensures { OnOk result (string_bytes out.new ≡ string_bytes out.old ++ refusal_line refusal) }
-{
-    let zero: u64 = 0;
-    let text = format!(in heap; "{refusal} {zero} {zero} {zero}\n")?;
-    out.push_str(text.as_str())
+impl Line {
+    /// The line of an operation that answers lengths.
+    pub(crate) fn measured(operation: u64, lengths: &Lengths) -> Line
+        ensures { result ≡ record { operation = operation; refusal = 0; rows = lengths.now.rows; nulls = lengths.now.nulls; wrapped = lengths.now.wrapped } }
+    {
+        Line {
+            operation,
+            refusal: 0,
+            rows: lengths.rows,
+            nulls: lengths.nulls,
+            wrapped: lengths.wrapped,
+        }
+    }
+
+    /// The line of an operation that is refused.
+    pub(crate) fn refused(operation: u64, fault: JobFault) -> Line
+        ensures { result ≡ record { operation = operation; refusal = fault_number fault; rows = 0; nulls = 0; wrapped = 0 } }
+    {
+        Line {
+            operation,
+            refusal: fault.number(),
+            rows: 0,
+            nulls: 0,
+            wrapped: 0,
+        }
+    }
 }
 
-/// Adds a length on a line of its own. Example: `-2147483648`.
-pub(crate) fn put_number(heap: Global, out: &mut String, n: i64) -> Result<(), AllocError>
-    ensures { OnOk result (string_bytes out.new ≡ string_bytes out.old ++ number_line n) }
-{
-    let text = format!(in heap; "{n}\n")?;
-    out.push_str(text.as_str())
+impl fmt::Display for Line {
+    ghost output = { λ l. Some (line_text l.operation l.refusal l.rows l.nulls l.wrapped) };
+
+    fn fmt<W: fmt::Write>(&self, f: &mut fmt::Formatter<W>) -> fmt::Result {
+        let Line {
+            operation,
+            refusal,
+            rows,
+            nulls,
+            wrapped,
+        } = *self;
+        write!(f, "{operation} {refusal} {rows} {nulls} {wrapped}")
+    }
+}
+
+/// A refusal that belongs to no operation. Example: `17 0 0 0`.
+#[derive(Clone, Copy, PartialEq, Debug)]
+pub struct Refusal {
+    pub fault: JobFault,
+}
+
+impl fmt::Display for Refusal {
+    ghost output = { λ r. Some (refusal_text (fault_number r.fault)) };
+
+    fn fmt<W: fmt::Write>(&self, f: &mut fmt::Formatter<W>) -> fmt::Result {
+        let number = self.fault.number();
+        write!(f, "{number} 0 0 0")
+    }
 }

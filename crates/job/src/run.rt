@@ -6,7 +6,7 @@ use crate::entry::{Columns, Entry};
 use crate::fault::{JobError, JobFault};
 use crate::operate::operate;
 use crate::part::Part;
-use crate::print::put_refusal;
+use crate::print::Refusal;
 use records::format::read_format;
 use records::record::{Record, next_record};
 use std::alloc::{AllocError, Global};
@@ -42,7 +42,7 @@ impl<'a> Job<'a> {
     fn stop(&mut self, fault: JobFault, out: &mut String) -> Result<bool, AllocError>
         ensures { IfOk result (λ more. Stopped (fault_number fault) (state_of self.old) (state_of self.new) (string_bytes out.old) (string_bytes out.new) more) }
     {
-        put_refusal(self.heap, out, fault.number())?;
+        writeln!(out, "{}", Refusal { fault })?;
         self.rest = &[];
         Ok(true)
     }
@@ -68,7 +68,7 @@ impl<'a> Job<'a> {
             Err(JobError::Memory(e)) => return Err(e),
             Err(JobError::Fault(fault)) => match fault {
                 JobFault::Record => return self.stop(fault, out),
-                _ => put_refusal(self.heap, out, fault.number())?,
+                _ => writeln!(out, "{}", Refusal { fault })?,
             },
         }
         self.columns.push(entry)?;
