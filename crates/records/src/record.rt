@@ -71,17 +71,17 @@ const KIND_BYTES: usize = 2;
 
 // A number as a file gives it: a fixed count of bytes, the lowest first.
 pub(crate) trait Number: Copy {
-    ghost width: { ℕ };
+    ghost size: { ℕ };
 
     ghost number: { Self → ℕ };
 
     // The number at the front, and what follows it.
     fn read(b: &[u8]) -> Result<(Self, &[u8]), BadRecord>
-        ensures { MatchResult result (λ p. Reads width (number p.0) b.now p.1.now) (λ _. (x : ℕ) (rest : List ℕ) → Reads width x b.now rest → ⊥) };
+        ensures { MatchResult result (λ p. Reads size (number p.0) b.now p.1.now) (λ _. (x : ℕ) (rest : List ℕ) → Reads size x b.now rest → ⊥) };
 }
 
 impl Number for u16 {
-    ghost width = { 2 };
+    ghost size = { 2 };
 
     ghost number = { λ x. x };
 
@@ -92,7 +92,7 @@ impl Number for u16 {
 }
 
 impl Number for u32 {
-    ghost width = { 4 };
+    ghost size = { 4 };
 
     ghost number = { λ x. x };
 
@@ -103,7 +103,7 @@ impl Number for u32 {
 }
 
 impl Number for u64 {
-    ghost width = { 8 };
+    ghost size = { 8 };
 
     ghost number = { λ x. x };
 
@@ -115,7 +115,7 @@ impl Number for u64 {
 
 // The number that the bytes give, with nothing after it.
 fn last<T: Number>(b: &[u8]) -> Result<T, BadRecord>
-    ensures { MatchResult result (λ x. Reads T.width (T.number x) b.now []) (λ _. (x : ℕ) → Reads T.width x b.now [] → ⊥) }
+    ensures { MatchResult result (λ x. Reads T.size (T.number x) b.now []) (λ _. (x : ℕ) → Reads T.size x b.now [] → ⊥) }
 {
     match T::read(b)? {
         (x, []) => Ok(x),
