@@ -1,5 +1,5 @@
 // Text rules: UTF-8 after the grammar of RFC 3629.
-ghost use Rattle.std.specs.Prelude.{◌≡◌, ℕ, ◌<◌, ◌≤◌, [], ◌∷◌, length, drop, Decides, MatchOption, MatchResult};
+ghost use Rattle.std.specs.Prelude.{◌≡◌, ℕ, ◌<◌, ◌≤◌, drop, Decides, MatchOption, MatchResult};
 ghost use Rattle.encoding.specs.Scalars.{Rfc3629};
 ghost use Rattle.encoding.specs.Utf8.{Text, size_of, Char, Front, Tail, Second, Chars, Begins, Reaches, Unreadable, Boundary, Boundaries, first_bytes};
 
