@@ -82,12 +82,4 @@ char_told (utf8_4c h k t u) = grind (arith, nat_tests)
 
 -- a character has one to four bytes
 pub char_size : {c : List ℕ} → Char c → (1 ≤ length c) × (length c ≤ 4)
-char_size (utf8_1 h) = (omega arith, omega arith)
-char_size (utf8_2 h t) = (omega arith, omega arith)
-char_size (utf8_3a h k t) = (omega arith, omega arith)
-char_size (utf8_3b h k t) = (omega arith, omega arith)
-char_size (utf8_3c h k t) = (omega arith, omega arith)
-char_size (utf8_3d h k t) = (omega arith, omega arith)
-char_size (utf8_4a h k t u) = (omega arith, omega arith)
-char_size (utf8_4b h k t u) = (omega arith, omega arith)
-char_size (utf8_4c h k t u) = (omega arith, omega arith)
+char_size h = let t = char_told h in (grind (arith, nat_tests), grind (arith, nat_tests))

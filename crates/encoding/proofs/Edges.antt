@@ -1,51 +1,33 @@
 -- Boundaries of text are the places where characters begin.
-use Rattle.std.proofs.Common.{◌≡◌, ℕ, zero, suc, ◌+◌, ◌-◌, ◌<◌, ◌≤◌, List, [], ◌∷◌, ◌++◌, length, get_or, sym, refl, ap, ◌∙◌, subst, inl, inr, append_assoc, arith}
+use Rattle.std.proofs.Common.{rules, ◌≡◌, ℕ, zero, suc, ◌+◌, ◌-◌, ◌<◌, ◌≤◌, List, [], ◌∷◌, ◌++◌, length, get_or, sym, refl, ap, ◌∙◌, subst, inl, inr, append_assoc, arith}
 use Rattle.std.proofs.lemmas.List.{get_or_append_left, get_or-append_right, length-append}
+use Rattle.std.specs.Prelude.{All}
+use Rattle.std.proofs.lemmas.List.Elements.{All-get_or}
 use Rattle.std.proofs.lemmas.Bool.{cases_lt}
+use Rattle.std.proofs.lemmas.Bool.Decides.{nat_tests}
 use Rattle.encoding.specs.Utf8.{Char, utf8_1, utf8_2, utf8_3a, utf8_3b, utf8_3c, utf8_3d, utf8_4a, utf8_4b, utf8_4c, Chars, none, more, Begins, Boundary, Boundaries, Tail}
-use Rattle.encoding.proofs.Chars.{char_size}
+use Rattle.encoding.proofs.Chars.{char_size, char_told}
 
-tails2 : (a b i : ℕ) → Tail b → 0 < i → i < 2 → Tail (get_or (a ∷ b ∷ []) i 0)
-tails2 x0 x1 zero t h k = absurd (omega arith)
-tails2 x0 x1 (suc zero) t h k = t
-tails2 x0 x1 (suc (suc i)) t h k = absurd (omega arith)
-
-tails3 : (a b c i : ℕ) → Tail b → Tail c → 0 < i → i < 3 → Tail (get_or (a ∷ b ∷ c ∷ []) i 0)
-tails3 x0 x1 x2 zero t u h k = absurd (omega arith)
-tails3 x0 x1 x2 (suc zero) t u h k = t
-tails3 x0 x1 x2 (suc (suc zero)) t u h k = u
-tails3 x0 x1 x2 (suc (suc (suc i))) t u h k = absurd (omega arith)
-
-tails4 : (a b c d i : ℕ) → Tail b → Tail c → Tail d → 0 < i → i < 4 → Tail (get_or (a ∷ b ∷ c ∷ d ∷ []) i 0)
-tails4 x0 x1 x2 x3 zero t u v h k = absurd (omega arith)
-tails4 x0 x1 x2 x3 (suc zero) t u v h k = t
-tails4 x0 x1 x2 x3 (suc (suc zero)) t u v h k = u
-tails4 x0 x1 x2 x3 (suc (suc (suc zero))) t u v h k = v
-tails4 x0 x1 x2 x3 (suc (suc (suc (suc i)))) t u v h k = absurd (omega arith)
+-- the bytes of a list after its first, all of them tails
+after_first : (a : ℕ) (xs : List ℕ) → All Tail xs → (i : ℕ) → 0 < i → i < suc (length xs) → Tail (get_or (a ∷ xs) i 0)
+after_first a xs h zero p q = absurd (omega arith)
+after_first a xs h (suc i) p q = All-get_or Tail xs i 0 (omega arith) h
 
 -- inside a character the bytes are tails
 inside : {c : List ℕ} → Char c → (i : ℕ) → 0 < i → i < length c → Tail (get_or c i 0)
 inside (utf8_1 h) i p q = absurd (omega arith)
-inside (utf8_2 h t) i p q = tails2 _ _ i t p q
-inside (utf8_3a h k t) i p q = tails3 _ _ _ i (omega arith, omega arith) t p q
-inside (utf8_3b h k t) i p q = tails3 _ _ _ i k t p q
-inside (utf8_3c h k t) i p q = tails3 _ _ _ i (omega arith, omega arith) t p q
-inside (utf8_3d h k t) i p q = tails3 _ _ _ i k t p q
-inside (utf8_4a h k t u) i p q = tails4 _ _ _ _ i (omega arith, omega arith) t u p q
-inside (utf8_4b h k t u) i p q = tails4 _ _ _ _ i k t u p q
-inside (utf8_4c h k t u) i p q = tails4 _ _ _ _ i (omega arith, omega arith) t u p q
+inside (utf8_2 {a = a} {b = b} h t) i p q = after_first a (b ∷ []) (search rules) i p q
+inside (utf8_3a {a = a} {b = b} {c = c} h k t) i p q = after_first a (b ∷ c ∷ []) (search rules) i p q
+inside (utf8_3b {a = a} {b = b} {c = c} h k t) i p q = after_first a (b ∷ c ∷ []) (search rules) i p q
+inside (utf8_3c {a = a} {b = b} {c = c} h k t) i p q = after_first a (b ∷ c ∷ []) (search rules) i p q
+inside (utf8_3d {a = a} {b = b} {c = c} h k t) i p q = after_first a (b ∷ c ∷ []) (search rules) i p q
+inside (utf8_4a {a = a} {b = b} {c = c} {d = d} h k t u) i p q = after_first a (b ∷ c ∷ d ∷ []) (search rules) i p q
+inside (utf8_4b {a = a} {b = b} {c = c} {d = d} h k t u) i p q = after_first a (b ∷ c ∷ d ∷ []) (search rules) i p q
+inside (utf8_4c {a = a} {b = b} {c = c} {d = d} h k t u) i p q = after_first a (b ∷ c ∷ d ∷ []) (search rules) i p q
 
 -- the first byte is none
 leads : {c : List ℕ} → Char c → Tail (get_or c 0 0) → ⊥
-leads (utf8_1 h) t = omega arith
-leads (utf8_2 h k) t = omega arith
-leads (utf8_3a h k u) t = omega arith
-leads (utf8_3b h k u) t = omega arith
-leads (utf8_3c h k u) t = omega arith
-leads (utf8_3d h k u) t = omega arith
-leads (utf8_4a h k u v) t = omega arith
-leads (utf8_4b h k u v) t = omega arith
-leads (utf8_4c h k u v) t = omega arith
+leads h t = let told = char_told h in grind (arith, nat_tests)
 
 text_leads : {k : ℕ} {s : List ℕ} → Chars k s → 0 < length s → Tail (get_or s 0 0) → ⊥
 text_leads none h u = absurd (omega arith)

@@ -1,11 +1,11 @@
 -- Text read from its front, character by character.
-use Rattle.std.proofs.Common.{◌≡◌, ℕ, zero, suc, ◌+◌, ◌<◌, ◌≤◌, true, false, cond, List, ◌++◌, length, take, drop, sym, refl, ap, ◌∙◌, subst, inl, inr, append_assoc, arith, take-append-drop, take-add}
+use Rattle.std.proofs.Common.{◌≡◌, ℕ, zero, suc, ◌+◌, ◌<◌, ◌≤◌, cond, List, ◌++◌, length, take, drop, sym, refl, ap, ◌∙◌, subst, inl, inr, append_assoc, arith, take-append-drop, take-add}
 use lib.Seq.{take-append-add}
 use Rattle.std.proofs.lemmas.List.{length-append, length-take-le, take_at, drop_at, length-drop}
 use Rattle.std.proofs.lemmas.List.Sums.{sum_by-append}
 use Rattle.std.proofs.lemmas.Bool.{cases_lt}
 use Rattle.std.proofs.lemmas.Bool.Decides.{nat_tests}
-use Rattle.encoding.specs.Utf8.{Char, utf8_1, utf8_2, utf8_3a, utf8_3b, utf8_3c, utf8_3d, utf8_4a, utf8_4b, utf8_4c, Tail, Chars, none, more, Text, Front, Reaches, Begins, Unreadable, leads, first_bytes}
+use Rattle.encoding.specs.Utf8.{Char, utf8_1, utf8_2, utf8_3a, utf8_3b, utf8_3c, utf8_3d, utf8_4a, utf8_4b, utf8_4c, Chars, none, more, Text, Front, Reaches, Begins, Unreadable, leads, first_bytes}
 use Rattle.encoding.proofs.Texts.{front_told, chars_rest, chars_front, chars_join, one_char}
 
 pub front_of : (c u b : List ℕ) → Char c → b ≡ c ++ u → Front b (length c)
@@ -103,13 +103,3 @@ pub chars_counted : {n : ℕ} {s : List ℕ} → Chars n s → first_bytes s ≡
 chars_counted none = refl
 chars_counted (more {n = n} {c = c} {t = t} {s = s} h r e) =
     ap first_bytes e ∙ sum_by-append (λ (x : ℕ). cond (leads x) 1 0) c t ∙ omega (arith, first_of h, chars_counted r)
-
-pub leads_yes : (b : ℕ) → (Tail b → ⊥) → leads b ≡ true
-leads_yes b h =
-    elim (cases_lt b 128) [
-      | inl l ↦ grind (arith, nat_tests)
-      | inr g ↦ elim (cases_lt 191 b) [ inl l ↦ grind (arith, nat_tests) | inr k ↦ absurd (h (g, k)) ]
-    ]
-
-pub leads_no : (b : ℕ) → Tail b → leads b ≡ false
-leads_no b t = grind (arith, nat_tests)

@@ -1,13 +1,14 @@
 -- Each character is one scalar value, and each text a list of them.
-use Rattle.std.proofs.Common.{◌≡◌, ℕ, suc, ◌+◌, ◌-◌, ◌*◌, ◌/◌, ◌<◌, ◌≤◌, true, eqb, List, [], ◌∷◌, ◌++◌, length, IsUtf8, sym, refl, ap, ◌∙◌, subst, inl, inr, arith}
+use Rattle.std.proofs.Common.{◌≡◌, ℕ, suc, ◌+◌, ◌-◌, ◌*◌, ◌/◌, ◌<◌, ◌≤◌, true, List, [], ◌∷◌, ◌++◌, length, IsUtf8, sym, refl, ap, ◌∙◌, subst, inl, inr, arith}
 use lib.Utf8.{scalar, scalars, encode, encodes, next, scalar_cases}
-use Rattle.std.specs.Str.{chars}
+use Rattle.std.specs.Str.{chars, bytes_eq}
+use Rattle.std.proofs.lemmas.Slice.Eq.{bytes_eq-Decides}
 use Rattle.std.proofs.lemmas.Str.{encode_same, encodes-chars, scalars-chars}
-use Rattle.std.proofs.lemmas.Bool.{cond-true, cond-false, lt-ltb, le-ltb, cases_lt, and_from, and_parts, eq-eqb, eqb-true}
+use Rattle.std.proofs.lemmas.Bool.{cond-true, cond-false, lt-ltb, le-ltb, cases_lt, and_from, and_parts}
 use Rattle.std.proofs.lemmas.Bool.Decides.{nat_tests}
 use Rattle.encoding.specs.Utf8.{Char, utf8_1, utf8_2, utf8_3a, utf8_3b, utf8_3c, utf8_3d, utf8_4a, utf8_4b, utf8_4c, Chars, none, more, Text, Tail}
 use Rattle.encoding.specs.Scalars.{Rfc3629}
-use Rattle.encoding.specs.Spelt.{same, is_text}
+use Rattle.encoding.specs.Spelt.{is_text}
 use Rattle.encoding.proofs.Chars.{three_from, four_from}
 
 -- the bytes of a scalar value, by its size
@@ -139,30 +140,15 @@ rfc3629 = record {
   utf8 = text_from_utf8;
 }
 
--- the test of equal lists says that they are equal
-pub same_refl : (xs : List ℕ) → same xs xs ≡ true
-same_refl [] = refl
-same_refl (x ∷ xs) = and_from _ _ (eq-eqb x x refl) (same_refl xs)
-
-pub same_true : (xs ys : List ℕ) → same xs ys ≡ true → xs ≡ ys
-same_true [] [] h = refl
-same_true [] (y ∷ ys) h = let z : ◌≡◌ {A = ℕ} 0 1 = cc in absurd (omega arith)
-same_true (x ∷ xs) [] h = let z : ◌≡◌ {A = ℕ} 0 1 = cc in absurd (omega arith)
-same_true (x ∷ xs) (y ∷ ys) h =
-    let p = and_parts (eqb x y) (same xs ys) h in
-    let e : x ≡ y = eqb-true x y p.0 in
-    let f : xs ≡ ys = same_true xs ys p.1 in
-    cc
-
 -- the test of text says what the grammar says
 pub is_text_from : (s : List ℕ) → Text s → is_text s ≡ true
 unfolding is_text
 is_text_from s t =
     let u = utf8_from_text s t in
-    and_from _ _ (scalars-chars s u) (ap (λ (l : List ℕ). same l s) (encodes-chars s u) ∙ same_refl s)
+    and_from _ _ (scalars-chars s u) ((bytes_eq-Decides (encodes (chars s)) s).1 (encodes-chars s u))
 
 pub text_from : (s : List ℕ) → is_text s ≡ true → Text s
 unfolding is_text
 text_from s h =
-    let p = and_parts (scalars (chars s)) (same (encodes (chars s)) s) h in
-    text_from_utf8 s (chars s, (p.0, same_true (encodes (chars s)) s p.1))
+    let p = and_parts (scalars (chars s)) (bytes_eq (encodes (chars s)) s) h in
+    text_from_utf8 s (chars s, (p.0, (bytes_eq-Decides (encodes (chars s)) s).0 p.1))

@@ -1,5 +1,5 @@
 // Validity maps: a bit for each row, 1 for a row that holds a value.
-ghost use Rattle.std.specs.Prelude.{◌≡◌, ℕ, ◌+◌, ◌*◌, ◌/◌, ◌%◌, ◌<◌, ◌≤◌, ◌↔◌, length, Decides, IsOk, MatchOption};
+ghost use Rattle.std.specs.Prelude.{◌≡◌, ◌+◌, ◌*◌, ◌/◌, ◌%◌, ◌<◌, ◌≤◌, ◌↔◌, length, Decides, IsOk, MatchOption};
 ghost use Rattle.encoding.specs.Bitmap.{bit, marked, with_bit, BitLaws};
 
 /// A validity map: bytes with a start bit. The bit of row i is bit start + i, the lowest bit of each byte first.

@@ -1,5 +1,5 @@
 // The product by eight: a length in bytes as a length in bits.
-ghost use Rattle.std.specs.Prelude.{◌≡◌, ℕ, ◌*◌, ◌≤◌, Decides};
+ghost use Rattle.std.specs.Prelude.{◌≡◌, ◌*◌, ◌≤◌, Decides};
 ghost use Rattle.encoding.specs.Offsets.{wrapped, Wraps};
 
 use crate::offset::Offset;

@@ -39,6 +39,7 @@ pub trait Offset: Copy {
     ghost same: { (a b : Self) → number a ≡ number b → a ≡ b };
 }
 
+// Each width converts by itself: one text over `TryFrom` needs a law longer than both lines, and no law bounds `to_u64` by the width.
 impl Offset for i32 {
     ghost number = { λ z. z };
 

@@ -1,5 +1,5 @@
 // Text rules: UTF-8 after the grammar of RFC 3629.
-ghost use Rattle.std.specs.Prelude.{◌≡◌, ℕ, ◌<◌, ◌≤◌, [], ◌∷◌, length, drop, Decides, MatchOption, MatchResult};
+ghost use Rattle.std.specs.Prelude.{◌≡◌, ℕ, ◌<◌, ◌≤◌, drop, Decides, MatchOption, MatchResult};
 ghost use Rattle.encoding.specs.Scalars.{Rfc3629};
 ghost use Rattle.encoding.specs.Utf8.{Text, size_of, Char, Front, Tail, Second, Chars, Begins, Reaches, Unreadable, Boundary, Boundaries, first_bytes};
 
@@ -87,7 +87,7 @@ pub fn count(s: &[u8]) -> usize
     ensures value { result ≡ first_bytes s.now }
     ensures chars { (n : ℕ) → Chars n s.now → result ≡ n }
 {
-    // A sum: with `filter` and `count`, 4 MB took 3.3 ms in place of 1.4.
+    // A sum, since `filter` and `count` took twice as long: 2.6 ms or more for 4 MB, in place of 1.3.
     s.iter().map(|b| usize::from(!tail(*b))).sum()
 }
 
