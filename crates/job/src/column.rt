@@ -53,9 +53,7 @@ fn measure_in<O: Offset>(
 {
     let lists = gather::<O>(heap, part)?;
     let column = lists.column(text)?;
-    let mut narrow = [0i32; 4096];
-    let mut wide = [0i64; 4096];
-    lengths_of(heap, &column, unit, &mut narrow, &mut wide)
+    lengths_of(heap, &column, unit)
 }
 
 impl OffsetFormat {

@@ -54,27 +54,22 @@ fn numbers_of(
     }
 }
 
-// The lengths of a column in a unit, by way of two lists. Refuses by 12 where it has more rows than a list has places.
+// The lengths of a column in a unit, by way of two lists, one for each width. Refuses by 12 where it has more rows than a list has places.
 pub(crate) fn lengths_of(
     heap: Global,
     column: &OffsetColumn<'_>,
     unit: Unit,
-    narrow: &mut [i32],
-    wide: &mut [i64],
 ) -> Result<Lengths, JobError>
-    requires places { (size narrow.old ≡ 4096) × (size wide.old ≡ 4096) }
     ensures { MeasuredAs unit (lists_of column.now) result }
 {
-    let any = Column::Offset(*column);
-    let wrapped = measure(&any, unit, narrow, wide)?;
+    let mut narrow = [0i32; 4096];
+    let mut wide = [0i64; 4096];
+    let wrapped = measure(&Column::Offset(*column), unit, &mut narrow, &mut wide)?;
     let rows = column.len();
-    let is_wide = column.is_wide();
-    let numbers = numbers_of(heap, is_wide, rows, narrow, wide)?;
-    let nulls = count_nulls(column);
     Ok(Lengths {
         rows,
-        nulls,
+        nulls: count_nulls(column),
         wrapped,
-        numbers,
+        numbers: numbers_of(heap, column.is_wide(), rows, &narrow, &wide)?,
     })
 }
