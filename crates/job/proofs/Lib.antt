@@ -3,7 +3,6 @@ pub mod Finding
 pub mod FromRows
 pub mod Gathering
 pub mod Growing
-pub mod Measuring
 pub mod Printing
 pub mod Refusing
 pub mod Stepping

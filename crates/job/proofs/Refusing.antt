@@ -1,6 +1,10 @@
--- What is refused where a call has no answer.
+-- Calls that may be refused.
 use Rattle.std.proofs.Common.{◌≡◌, None, Some, Ok, Err, Option}
 use Rattle.std.specs.Option.{ok_or}
+use Rattle.job.specs.declared.fault.JobError.{JobError}
+use Rattle.job.specs.declared.fault.JobError.TheVariants.{Memory, Fault}
+use Rattle.job.specs.declared.fault.JobFault.{JobFault}
+use Rattle.job.specs.Faults.{OnFault}
 
 pub refused_none : {T E : Type 0} (o : Option T) (d e : E) → Err e ≡ ok_or o d → (o ≡ None) × (e ≡ d)
 refused_none None d e h = (cc, cc)
@@ -9,3 +13,8 @@ refused_none (Some x) d e h = (cc, cc)
 pub given_some : {T E : Type 0} (o : Option T) (d : E) (x : T) → Ok x ≡ ok_or o d → o ≡ Some x
 given_some None d x h = cc
 given_some (Some y) d x h = cc
+
+-- what a fault says, made weaker
+pub fault_weaker : (P Q : JobFault → Type 0) (e : JobError) → ((f : JobFault) → P f → Q f) → OnFault P e → OnFault Q e
+fault_weaker P Q (Memory m) k h = tt
+fault_weaker P Q (Fault f) k h = k f h

@@ -1,33 +1,35 @@
 -- Steps of a job.
-use Rattle.std.proofs.Common.{◌≡◌, ℕ, ◌+◌, ◌<◌, ◌≤◌, Bool, true, List, [], ◌∷◌, ◌++◌, length, sym, refl, ap, ◌∙◌, subst, append_assoc, append-nil, arith, Bor}
+use Rattle.std.proofs.Common.{◌≡◌, ℕ, ◌+◌, ◌<◌, ◌≤◌, List, [], ◌∷◌, ◌++◌, length, sym, refl, ap, ◌∙◌, subst, append_assoc, append-nil, arith, Bor}
 use Rattle.std.proofs.lemmas.List.{length-append}
 use Rattle.records.specs.Layout.{Stands, Laid, given_of}
 use Rattle.records.specs.declared.record.Record.{Record}
 use Rattle.records.specs.declared.record.Record.TheVariants.{Column, Cut, CutByCharacter, Join, Length, BitLength}
 use Rattle.records.proofs.Records.{stands_same, stands_shorter}
+use Rattle.job.specs.declared.fault.JobFault.{JobFault}
+use Rattle.job.specs.declared.fault.JobFault.TheVariants.{File, Record as NoRecord}
+use Rattle.job.specs.Faults.{number}
 use Rattle.job.specs.Lines.{refusal_line}
 use Rattle.job.specs.Printed.{OperatePrinted}
-use Rattle.job.specs.Steps.{Stopped, Took, refused, taken, Made, Stepped}
+use Rattle.job.specs.Steps.{Took, Ends, Made}
 use Rattle.job.specs.Taken.{NotListed}
 use Rattle.job.specs.Transcript.{ColumnRecord, State, ended, Step, too_long, bad, column, operation, Listed, Operation, Runs, done, more}
 
--- a step that ends the job
-ended_by : (k : ℕ) (s t : State) (before after : List ℕ) (b : Bool) → Stopped k s t before after b → 0 < length s.rest → Step s (refusal_line k) (ended s) → Stepped s t before after b
-ended_by k s t before after b h l p =
-    subst (Stepped s t before after) (sym h.goes)
-    (record {
-      added = refusal_line k;
-      printed = h.says;
-      stepped = subst (Step s (refusal_line k)) (sym h.ends) p;
-      shorter = subst (λ (u : State). length u.rest < length s.rest) (sym h.ends) l;
-    })
+-- what ends the job
+pub ends_long : (s : State) (out : List ℕ) → 65536 < length s.rest → Ends s s File out out
+ends_long s out l = record { step = too_long l; same = refl; silent = refl }
 
-pub stop_long : (s t : State) (before after : List ℕ) (b : Bool) → 65536 < length s.rest → Stopped 19 s t before after b → Stepped s t before after b
-stop_long s t before after b l h = ended_by 19 s t before after b h (omega arith) (too_long l)
+pub ends_bad : (s : State) (out : List ℕ) → 0 < length s.rest → length s.rest ≤ 65536 → ((x : Record) (u : List ℕ) → Stands s.rest x u → ⊥) → Ends s s NoRecord out out
+ends_bad s out l k n = record { step = bad l k (λ x u p _. n x u p); same = refl; silent = refl }
 
-pub stop_bad : (s t : State) (before after : List ℕ) (b : Bool) → 0 < length s.rest → length s.rest ≤ 65536
-    → ((x : Record) (u : List ℕ) → Stands s.rest x u → ⊥) → Stopped 17 s t before after b → Stepped s t before after b
-stop_bad s t before after b l k n h = ended_by 17 s t before after b h l (bad l k (λ x u p _. n x u p))
+-- the step that such a fault makes, once it is printed
+pub ended_made : (s t : State) (f : JobFault) (before mid after : List ℕ) → 0 < length s.rest → Ends s t f before mid → after ≡ mid ++ refusal_line (number f)
+    → Made s (ended t) before after
+ended_made s t f before mid after l h p = record {
+  added = refusal_line (number f);
+  printed = p ∙ ap (λ (o : List ℕ). o ++ refusal_line (number f)) h.silent;
+  stepped = subst (λ (u : State). Step s (refusal_line (number f)) (ended u)) (sym h.same) h.step;
+  shorter = l;
+}
 
 -- a column record that is listed at all is listed by the parts of any record that stands there
 not_listed_by : (x : Record) (f p : Bor (List ℕ)) → given_of x ≡ given_of (Column f p) → NotListed f.now p.now → Listed x → ⊥
@@ -45,26 +47,27 @@ not_listed_by (Join j k) f p e n h = absurd (let z : ◌≡◌ {A = ℕ} 0 1 = c
 not_listed_by (Length k) f p e n h = absurd (let z : ◌≡◌ {A = ℕ} 0 1 = cc in omega arith)
 not_listed_by (BitLength k) f p e n h = absurd (let z : ◌≡◌ {A = ℕ} 0 1 = cc in omega arith)
 
-took_step : (s t : State) (f p : Bor (List ℕ)) (rest before after : List ℕ) → 0 < length s.rest → length s.rest ≤ 65536 → Stands s.rest (Column f p) rest
-    → Took s t f.now p.now rest before after → Made s t before after
-took_step s t f p rest before after l k h (refused n e q) = record {
-  added = refusal_line 17;
-  printed = q;
-  stepped = subst (Step s (refusal_line 17)) (sym e) (bad l k (λ x u w. not_listed_by x f p (stands_same x (Column f p) u rest w h).0 n));
-  shorter = subst (λ (u : State). length u.rest < length s.rest) (sym e) l;
-}
-took_step s t f p rest before after l k h (taken y w e) = record {
-  added = _;
-  printed = w.printed;
-  stepped = subst (Step s _) (sym (e ∙ ap (λ (q : List ℕ). record { columns = s.columns ++ record { format = y.format; part = q } ∷ []; operations = s.operations; rest = rest }) w.kept))
-      (column (Column f p) y.format p.now rest w.rows w.answer k h (w.lawful, w.spelt, refl) w.laid w.answered);
-  shorter = subst (λ (u : State). length u.rest < length s.rest) (sym e) (stands_shorter (Column f p) h);
-}
+pub ends_unlisted : (s t : State) (x : Record) (f p : Bor (List ℕ)) (rest before after : List ℕ) → 0 < length s.rest → length s.rest ≤ 65536 → x ≡ Column f p → Stands s.rest x rest
+    → NotListed f.now p.now → t ≡ s → after ≡ before → Ends s t NoRecord before after
+ends_unlisted s t x f p rest before after l k q h n e a =
+    let z : Stands s.rest (Column f p) rest = subst (λ (y : Record). Stands s.rest y rest) q h in
+    record { step = bad l k (λ y u w. not_listed_by y f p (stands_same y (Column f p) u rest w z).0 n); same = e; silent = a }
 
-pub took_stepped : (s t : State) (x : Record) (f p : Bor (List ℕ)) (rest before after : List ℕ) (b : Bool) → 0 < length s.rest → length s.rest ≤ 65536 → x ≡ Column f p
-    → Stands s.rest x rest → b ≡ true → Took s t f.now p.now rest before after → Stepped s t before after b
-took_stepped s t x f p rest before after b l k e h g w =
-    subst (Stepped s t before after) (sym g) (took_step s t f p rest before after l k (subst (λ (y : Record). Stands s.rest y rest) e h) w)
+-- the step of a column record that was taken
+pub took_made : (s t : State) (x : Record) (f p : Bor (List ℕ)) (rest before after : List ℕ) → length s.rest ≤ 65536 → x ≡ Column f p → Stands s.rest x rest
+    → Took s t f.now p.now before after → Made s (record { columns = t.columns; operations = t.operations; rest = rest }) before after
+took_made s t x f p rest before after k q h w =
+    let z : Stands s.rest (Column f p) rest = subst (λ (y : Record). Stands s.rest y rest) q h in
+    let y = w.0 in
+    let e : ◌≡◌ {A = State} (record { columns = t.columns; operations = t.operations; rest = rest }) (record { columns = s.columns ++ record { format = y.format; part = p.now } ∷ []; operations = s.operations; rest = rest }) =
+    ap (λ (u : State). record { columns = u.columns; operations = u.operations; rest = rest }) w.2
+    ∙ ap (λ (b : List ℕ). record { columns = s.columns ++ record { format = y.format; part = b } ∷ []; operations = s.operations; rest = rest }) w.1.kept in
+    record {
+      added = _;
+      printed = w.1.printed;
+      stepped = subst (Step s _) (sym e) (column (Column f p) y.format p.now rest w.1.rows w.1.answer k z (w.1.lawful, w.1.spelt, refl) w.1.laid w.1.answered);
+      shorter = stands_shorter (Column f p) z;
+    }
 
 pub operated : (s : State) (x : Record) (rest before after added : List ℕ) → length s.rest ≤ 65536 → Stands s.rest x rest → after ≡ before ++ added
     → Operation s.columns (s.operations + 1) x added → Made s (record { columns = s.columns; operations = s.operations + 1; rest = rest }) before after

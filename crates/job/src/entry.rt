@@ -1,18 +1,22 @@
 // Column records that a job has taken.
-ghost use Rattle.std.specs.Prelude.{◌≡◌, ℕ, List, MatchOption, MatchResult};
+ghost use Rattle.std.specs.Prelude.{◌≡◌, ℕ, List, None, MatchOption, MatchResult};
+ghost use Rattle.records.specs.Layout.{GivenRow, Laid};
 ghost use Rattle.job.specs.declared.column.OffsetFormat.{OffsetFormat as Built};
 ghost use Rattle.job.specs.declared.fault.JobFault.TheVariants.{NotRead as IsUnread};
 ghost use Rattle.job.specs.Faults.{OnFault};
 ghost use Rattle.job.specs.Measured.{ColumnMeasured};
 ghost use Rattle.job.specs.Printed.{IsRead};
 ghost use Rattle.job.specs.States.{records_of, Has};
-ghost use Rattle.job.specs.Transcript.{IsNotRead};
+ghost use Rattle.job.specs.Taken.{Meets};
+ghost use Rattle.job.specs.Transcript.{ColumnAnswer, IsNotRead};
 
 use crate::column::{OffsetFormat, built};
 use crate::fault::{JobError, JobFault};
+use crate::gather::gather;
 use crate::lengths::Lengths;
 use crate::part::Part;
 use kernels::length::Unit;
+use kinds::fault::KindFault;
 use records::format::Format;
 use std::alloc::Global;
 
@@ -21,6 +25,23 @@ use std::alloc::Global;
 pub struct Entry<'a> {
     pub format: Format,
     pub part: Part<'a>,
+}
+
+impl Entry<'_> {
+    /// Whether the column of the record can be made. Refuses by 17 a part that is not laid out as rows, by 15 a format that is
+    /// not built, and by 4 a text column with a row that is no text.
+    pub(crate) fn check(&self, heap: Global) -> Result<(), JobError>
+        ensures { MatchResult result (λ _. (rs : List GivenRow) × Laid self.now.part.bytes.now rs × ColumnAnswer self.now.format rs None)
+            (OnFault (Meets self.now.format self.now.part.bytes.now)) }
+    {
+        match built(self.format) {
+            Some(known) => known.check(heap, self.part),
+            None => {
+                gather::<i64>(heap, self.part)?;
+                Err(JobError::Fault(JobFault::Kind(KindFault::Lacks)))
+            }
+        }
+    }
 }
 
 /// The column records that a job has taken, and the memory in which their columns are made.

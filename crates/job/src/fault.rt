@@ -10,7 +10,7 @@ use columns::fault::ColumnFault;
 use kernels::length::LengthFault;
 use kinds::fault::KindFault;
 use records::record::BadRecord;
-use std::alloc::AllocError;
+use std::alloc::{AllocError, AllocFailed};
 
 /// Why a part of a job is refused. Its number stands in specs/Faults.antt.
 #[derive(Clone, Copy, PartialEq, Debug)]
@@ -39,6 +39,14 @@ impl From<AllocError> for JobError {
 
     fn from(e: AllocError) -> JobError {
         JobError::Memory(e)
+    }
+}
+
+impl<T: Drop> From<AllocFailed<T>> for JobError {
+    ghost from_gives = { λ _ r. r ≡ Memory alloc_error };
+
+    fn from(e: AllocFailed<T>) -> JobError {
+        JobError::Memory(AllocError::from(e))
     }
 }
 

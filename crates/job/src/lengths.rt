@@ -48,7 +48,7 @@ fn numbers_of(
     }
 }
 
-// The lengths of a column in a unit, by way of two lists. Refuses by 12 where it has more rows than a list has places.
+// The lengths of a column in a unit, by way of two lists, one for each width. Refuses by 12 where it has more rows than a list has places.
 pub(crate) fn lengths_of(
     heap: Global,
     column: &OffsetColumn<'_>,
@@ -60,12 +60,10 @@ pub(crate) fn lengths_of(
     let mut wide = [0i64; 4096];
     let wrapped = measure(&Column::Offset(*column), unit, &mut narrow, &mut wide)?;
     let rows = column.len();
-    let numbers = numbers_of(heap, column.is_wide(), rows, &narrow, &wide)?;
-    let nulls = count_nulls(column);
     Ok(Lengths {
         rows,
-        nulls,
+        nulls: count_nulls(column),
         wrapped,
-        numbers,
+        numbers: numbers_of(heap, column.is_wide(), rows, &narrow, &wide)?,
     })
 }

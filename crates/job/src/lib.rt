@@ -10,4 +10,3 @@ pub mod operate;
 pub mod part;
 pub mod print;
 pub mod run;
-pub mod taking;

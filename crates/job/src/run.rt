@@ -1,5 +1,5 @@
 // A job run record by record.
-ghost use Rattle.std.specs.Prelude.{◌≡◌, ◌+◌, ◌^◌, ◌<◌, ◌≤◌, true, [], length as size, string_bytes, IfOk};
+ghost use Rattle.std.specs.Prelude.{◌≡◌, ◌+◌, ◌^◌, ◌<◌, [], length as size, string_bytes, IfOk, MatchResult};
 ghost use Rattle.job.specs.Transcript.{Transcript, OneTranscript};
 
 use crate::entry::{Columns, Entry};
@@ -23,8 +23,10 @@ pub struct Job<'a> {
 }
 
 impl<'a> Job<'a> {
-    ghost use Rattle.job.specs.Faults.{number as fault_number};
-    ghost use Rattle.job.specs.Steps.{state_of, Stopped, Took, Stepped};
+    ghost use Rattle.job.specs.declared.fault.JobFault.TheVariants.{Record as NoRecord};
+    ghost use Rattle.job.specs.Faults.{OnFault};
+    ghost use Rattle.job.specs.Steps.{state_of, Took, Ends, Made, Stepped};
+    ghost use Rattle.job.specs.Taken.{NotListed};
 
     /// A job over a file, before its first step.
     pub fn new(heap: Global, file: &'a [u8]) -> Job<'a>
@@ -38,42 +40,47 @@ impl<'a> Job<'a> {
         }
     }
 
-    // Prints a refusal that ends the job.
-    fn stop(&mut self, fault: JobFault, out: &mut String) -> Result<bool, AllocError>
-        ensures { IfOk result (λ more. Stopped (fault_number fault) (state_of self.old) (state_of self.new) (string_bytes out.old) (string_bytes out.new) more) }
+    // Takes a column record. Refuses by 17, with nothing changed, letters that are no format and rows that are not laid out.
+    fn take(&mut self, letters: &[u8], part: Part<'a>, out: &mut String) -> Result<(), JobError>
+        ensures { MatchResult result (λ _. Took (state_of self.old) (state_of self.new) letters.now part.entry.bytes.now (string_bytes out.old) (string_bytes out.new))
+            (OnFault (λ f. (f ≡ NoRecord) × NotListed letters.now part.entry.bytes.now × (state_of self.new ≡ state_of self.old) × (string_bytes out.new ≡ string_bytes out.old))) }
     {
-        writeln!(out, "{}", Refusal { fault })?;
-        self.rest = &[];
-        Ok(true)
-    }
-
-    // Takes a column record, and goes on after it.
-    fn take(
-        &mut self,
-        letters: &[u8],
-        part: Part<'a>,
-        after: &'a [u8],
-        out: &mut String,
-    ) -> Result<bool, AllocError>
-        requires { size after.now ≤ size self.old.rest.now }
-        ensures { IfOk result (λ more. (more ≡ true) × Took (state_of self.old) (state_of self.new) letters.now part.entry.bytes.now after.now
-            (string_bytes out.old) (string_bytes out.new)) }
-    {
-        let Some(format) = read_format(letters) else {
-            return self.stop(JobFault::Record, out);
-        };
+        let format = read_format(letters).ok_or(JobFault::Record)?;
         let entry = Entry { format, part };
         match entry.check(self.heap) {
             Ok(()) => {}
-            Err(JobError::Memory(e)) => return Err(e),
+            Err(JobError::Memory(e)) => return Err(JobError::Memory(e)),
             Err(JobError::Fault(fault)) => match fault {
-                JobFault::Record => return self.stop(fault, out),
+                JobFault::Record => return Err(JobError::Fault(fault)),
                 _ => writeln!(out, "{}", Refusal { fault })?,
             },
         }
         self.columns.push(entry)?;
+        Ok(())
+    }
+
+    // Takes the next record. A fault ends the job, and is not printed yet.
+    fn advance(&mut self, out: &mut String) -> Result<(), JobError>
+        requires { 0 < size self.old.rest.now }
+        ensures { MatchResult result (λ _. Made (state_of self.old) (state_of self.new) (string_bytes out.old) (string_bytes out.new))
+            (OnFault (λ f. Ends (state_of self.old) (state_of self.new) f (string_bytes out.old) (string_bytes out.new))) }
+    {
+        if self.rest.len() > 65_536 {
+            return Err(JobError::Fault(JobFault::File));
+        }
+        let (found, after) = next_record(self.rest)?;
+        if let Record::Column { format, rows } = found {
+            self.take(format, Part { bytes: rows }, out)?;
+        } else {
+            let columns = Columns {
+                heap: self.heap,
+                entries: self.columns.as_slice(),
+            };
+            operate(&columns, self.operations + 1, found, out)?;
+            self.operations += 1;
+        }
         self.rest = after;
-        Ok(true)
+        Ok(())
     }
 
     /// One step: takes the next record and adds what it prints. Answers false, with nothing changed, where nothing is left
@@ -84,22 +91,14 @@ impl<'a> Job<'a> {
         if self.rest.is_empty() {
             return Ok(false);
         }
-        if self.rest.len() > 65_536 {
-            return self.stop(JobFault::File, out);
+        match self.advance(out) {
+            Ok(()) => {}
+            Err(JobError::Memory(e)) => return Err(e),
+            Err(JobError::Fault(fault)) => {
+                writeln!(out, "{}", Refusal { fault })?;
+                self.rest = &[];
+            }
         }
-        let Ok((found, after)) = next_record(self.rest) else {
-            return self.stop(JobFault::Record, out);
-        };
-        if let Record::Column { format, rows } = found {
-            return self.take(format, Part { bytes: rows }, after, out);
-        }
-        let columns = Columns {
-            heap: self.heap,
-            entries: self.columns.as_slice(),
-        };
-        operate(&columns, self.operations + 1, found, out)?;
-        self.operations += 1;
-        self.rest = after;
         Ok(true)
     }
 }
