@@ -5,7 +5,7 @@ cd "$(dirname "$0")/../crates" || exit 1
 
 # The sources without the lines that only the check reads.
 code() {
-    find . -path '*/src/*.rt' | sort | xargs grep -nE "$1" | grep -vE ':[0-9]+:\s*(//|ghost|requires|ensures)'
+    find ./*/src -name '*.rt' | sort | xargs grep -nE "$1" | grep -vE ':[0-9]+:\s*(//|ghost|requires|ensures)'
 }
 
 part() {
@@ -34,5 +34,5 @@ part '7 which step, by a word or a flag' 'match (section|unit|is_wide|letter|wid
 # Facts in clauses, which the words above leave out.
 echo '== 5a a fact repeated in clauses'
 for fact in 'part\.now ≤ 65536' 'e ≡ NoMemory' '≤ 2147483647' 'min\(2_147_483_647\)'; do
-    echo "$fact: $(find . -path '*/src/*.rt' | xargs cat | grep -cE "$fact")"
+    echo "$fact: $(find ./*/src -name '*.rt' | xargs cat | grep -cE "$fact")"
 done
