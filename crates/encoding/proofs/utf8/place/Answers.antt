@@ -1,4 +1,4 @@
-use Rattle.std.proofs.Common.{ℕ, List, length, drop, sym, refl, ap, ◌∙◌, subst, arith, length-drop}
+use Rattle.std.proofs.Common.{ℕ, List, drop, sym, refl, ap, ◌∙◌, subst, arith}
 use Rattle.std.proofs.lemmas.List.{drop-drop}
 use Rattle.encoding.specs.Utf8.{Reaches, Front, none}
 use Rattle.encoding.proofs.Reading.{reaches_more, reaches_none, reaches_text, not_reached}
