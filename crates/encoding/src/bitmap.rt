@@ -55,6 +55,7 @@ pub fn write(bytes: &mut [u8], start: usize, i: usize, valid: bool) -> Result<()
     ensures law { BitLaws }
 {
     let (byte, k) = place(start, i);
+    // By index, since after a write through `get_mut` a proof knows no element of the slice.
     let b = *bytes.get(byte).ok_or(NoBit)?;
     bytes[byte] = with_bit(b, k, valid);
     Ok(())

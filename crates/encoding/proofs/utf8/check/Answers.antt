@@ -8,7 +8,7 @@ use Rattle.encoding.proofs.Scalars.{rfc3629}
 use Rattle.encoding.proofs.utf8.check.Goals as goal
 
 pub loop-rest-init : goal.loop-rest-init
-loop-rest-init c = (omega arith, refl, (0, none))
+loop-rest-init c = (refl, (0, (omega arith, none)))
 
 pub returns-in_err-n : goal.returns-in_err-n
 returns-in_err-n c =
@@ -18,8 +18,8 @@ returns-in_err-n c =
     let f = rw c.in_err-n.ensures.ok_part at c.first_char.ensures in
     let u : Unreadable s p = record {
       inside = grind (arith, common_steps);
-      before = i.2;
-      stops = λ n h. f n (subst (λ (l : List ℕ). Front l n) (sym i.1) h);
+      before = (i.1.0, i.1.1.1);
+      stops = λ n h. f n (subst (λ (l : List ℕ). Front l n) (sym i.0) h);
     } in
     let e : c.from_residual.result ≡ Err (record { place = p }) = grind (arith, common_steps) in
     rw e (record { answer = (u, unreadable_no_text s p u); law = rfc3629 })
@@ -31,15 +31,11 @@ loop-rest-smaller c =
 
 pub loop-rest-preserved : goal.loop-rest-preserved
 loop-rest-preserved c =
-    let s : List ℕ = c.args.s.now in
-    let p = c.loop-rest.place in
     let n = c.in_ok-n.n in
     let f = rw c.in_ok-n.ensures.ok_part at c.first_char.ensures in
-    let i = c.loop-rest.invariant in
-    let r = reaches_more s i.2.0 p n c.loop-rest.rest.now (omega (arith, i.0), i.2.1) i.1 f.0 in (
-      omega (arith, i.0, ap length f.1, f.0.0, length-drop n c.loop-rest.rest.now),
-      f.1 ∙ ap (drop n) i.1 ∙ drop-drop n p s,
-      (i.2.0 + 1, r.1),
+    let i = c.loop-rest.invariant in (
+      f.1 ∙ ap (drop n) i.0 ∙ drop-drop n c.loop-rest.place c.args.s.now,
+      (i.1.0 + 1, reaches_more _ _ _ _ _ i.1.1 i.0 f.0),
     )
 
 pub returns-clause-law : goal.returns-clause-law

@@ -20,3 +20,8 @@ pub returns-then-tail : goal.returns-then-tail
 returns-then-tail c =
     let k = char_4 c.args.c.now (omega arith) (omega arith, omega arith) in
     Decides-like _ (λ t. k.0 (grind (arith, common_steps), grind (arith, common_steps), t)) (λ h. (k.1 h).2) c.tail-then-tail.ensures
+
+pub returns-else-tail : goal.returns-else-tail
+returns-else-tail c =
+    let k = char_4 c.args.c.now (omega arith) (omega arith, omega arith) in
+    (λ e. cc, λ h. let p = k.1 h in grind (arith, common_steps, p.0, p.1))

@@ -1,4 +1,4 @@
-use Rattle.std.proofs.Common.{ℕ, List, length, drop, sym, refl, ap, ◌∙◌, subst, arith, length-drop}
+use Rattle.std.proofs.Common.{ℕ, List, drop, sym, refl, ap, ◌∙◌, subst, arith}
 use Rattle.std.proofs.lemmas.List.{drop-drop}
 use Rattle.encoding.specs.Utf8.{Reaches, Front, none}
 use Rattle.encoding.proofs.Reading.{reaches_more, reaches_none, reaches_text, not_reached}
@@ -6,11 +6,6 @@ use Rattle.encoding.proofs.utf8.place.Goals as goal
 
 pub loop-init : goal.loop-init
 loop-init c = (refl, (omega arith, none))
-
-pub overflow_add-p : goal.overflow_add-p
-overflow_add-p c =
-    let i = c.loop.invariant in
-    omega (arith, c.in_ok-n.ensures.0.0, i.1.0, ap length i.0, length-drop c.loop.p c.args.s.now)
 
 pub loop-preserved : goal.loop-preserved
 loop-preserved c =

@@ -1,6 +1,0 @@
-use Rattle.std.proofs.Common.{sym, refl}
-use Rattle.std.proofs.lemmas.List.{map-id}
-use Rattle.encoding.proofs.offset.I32Offset.lend.Goals as goal
-
-pub returns : goal.returns
-returns c = record { numbers = sym (map-id c.args.list.now); ceiling = refl }
