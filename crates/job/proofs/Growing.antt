@@ -9,7 +9,7 @@ use Rattle.records.specs.Layout.Laid.{none, more}
 use Rattle.job.specs.Gathered.{starts_of, Lays}
 use Rattle.records.proofs.RowParts.{row_same}
 use Rattle.records.proofs.Little.{reads_fits}
-use Rattle.job.proofs.Gathering.{bytes_of, total_of, total_cons, length_bytes, bytes_append}
+use Rattle.job.proofs.Gathering.{rows_are, bytes_of, total_of, total_cons, length_bytes, bytes_append}
 
 -- ---- a bit more
 
@@ -48,18 +48,17 @@ starts_push a (q ∷ rs) r =
     ap (λ (z : List ℤ). pos a ∷ z) (starts_push (a + length q.bytes) rs r ∙ ap (λ (z : ℕ). starts_of (a + length q.bytes) rs ++ pos z ∷ []) e)
 
 -- the lists with a row more
-pub lays_push : {X : Type 0} (number : X → ℤ) (g h : Gathered X) (x : X) (v : Bool) (s : List ℕ) → h.rows ≡ g.rows + 1
+pub lays_push : {X : Type 0} (number : X → ℤ) (g h : Gathered X) (x : X) (v : Bool) (s : List ℕ) (n : ℕ) → n + 1 ≡ vec_len g.offsets
     → vec_items h.offsets ≡ vec_items g.offsets ++ x ∷ [] → number x ≡ pos (vec_len h.«data») → vec_items h.«data» ≡ vec_items g.«data» ++ s
-    → BitAdded (vec_items g.validity) (vec_items h.validity) g.rows v
+    → BitAdded (vec_items g.validity) (vec_items h.validity) n v
     → (rs : List GivenRow) → Lays number g rs → Lays number h (rs ++ record { valid = v; bytes = s } ∷ [])
-lays_push {X} number g h x v s n o e d b rs l =
+lays_push {X} number g h x v s n m o e d b rs l =
     let r : GivenRow = record { valid = v; bytes = s } in
-    let c = l.counted in
+    let c = rows_are number g rs l in
     let long = length_push rs r in
     let size : vec_len h.«data» ≡ 0 + total_of rs + length s =
     h.«data».ok.0 ∙ ap length d ∙ length-append (vec_items g.«data») s ∙ ap (λ (z : ℕ). z + length s) (ap length l.content ∙ length_bytes rs ∙ omega arith) in
     record {
-      counted = omega arith;
       starts = ap (map number) o ∙ map_push number (vec_items g.offsets) x ∙ ap (λ (z : List ℤ). z ++ number x ∷ []) l.starts
           ∙ ap (λ (z : ℤ). starts_of 0 rs ++ z ∷ []) (e ∙ ap pos size) ∙ sym (starts_push 0 rs r);
       content = d ∙ ap (λ (z : List ℕ). z ++ s) l.content ∙ ap (λ (z : List ℕ). bytes_of rs ++ z) (sym (append-nil s)) ∙ sym (bytes_append rs (r ∷ []));
@@ -67,7 +66,7 @@ lays_push {X} number g h x v s n o e d b rs l =
       bits = λ k q i. elim (cases_lt k (length rs)) [
         | inl a ↦ b.2 k (omega arith) ∙ l.bits k q a ∙ sym (ap (λ (z : GivenRow). z.valid) (get_or_append_left rs (r ∷ []) q k a))
         | inr a ↦
-            let f : k ≡ g.rows = omega arith in
+            let f : k ≡ n = omega arith in
             ap (bit (vec_items h.validity)) f ∙ b.1 ∙ sym (ap (λ (z : GivenRow). z.valid) (get_or_push rs r q k (omega arith)))
       ];
     }
@@ -100,14 +99,12 @@ pub record Taken {X : Type 0} (number : X → ℤ) (part rest : List ℕ) (g : G
   pub onward : (qs : List GivenRow) → Laid rest qs → Laid part (rs ++ qs)
   pub back : (ws : List GivenRow) → Laid part ws → (qs : List GivenRow) × (ws ≡ rs ++ qs) × Laid rest qs
   pub room : vec_len g.«data» + length rest ≤ length part
-  pub few : g.rows + length rest ≤ length part
 
 -- nothing is read yet
 pub taken_none : {X : Type 0} (number : X → ℤ) (part : List ℕ) (g : Gathered X) → Lays number g [] → Taken number part part g []
 taken_none number part g l =
     let size : vec_len g.«data» ≡ 0 = g.«data».ok.0 ∙ ap length l.content in
-    let none = l.counted in
-    record { lays = l; onward = λ qs m. m; back = λ ws m. (ws, refl, m); room = omega arith; few = omega arith }
+    record { lays = l; onward = λ qs m. m; back = λ ws m. (ws, refl, m); room = omega arith }
 
 -- a row more is read
 pub taken_more : {X : Type 0} (number : X → ℤ) (part rest t : List ℕ) (g h : Gathered X) (v : Bool) (s : List ℕ) (rs : List GivenRow) → Taken number part rest g rs
@@ -118,11 +115,7 @@ taken_more number part rest t g h v s rs k r l =
     let size : vec_len h.«data» ≡ vec_len g.«data» + length s =
     h.«data».ok.0 ∙ ap length (l.content ∙ bytes_append rs (q ∷ []) ∙ ap (λ (z : List ℕ). bytes_of rs ++ z) (append-nil s))
     ∙ length-append (bytes_of rs) s ∙ ap (λ (z : ℕ). z + length s) (sym (g.«data».ok.0 ∙ ap length k.lays.content)) in
-    let a = l.counted in
-    let b = k.lays.counted in
-    let p = length_push rs q in
     let x = k.room in
-    let y = k.few in
     record {
       lays = l;
       onward = λ qs m. subst (Laid part) (sym (append_assoc rs (q ∷ []) qs)) (k.onward (q ∷ qs) (more r m));
@@ -131,7 +124,6 @@ taken_more number part rest t g h v s rs k r l =
           let f = laid_first v s t r o.2 in
           (f.0, o.1 ∙ ap (λ (z : List GivenRow). rs ++ z) f.1 ∙ sym (append_assoc rs (q ∷ []) f.0), f.2);
       room = omega arith;
-      few = omega arith;
     }
 
 -- all is read

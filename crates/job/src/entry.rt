@@ -12,7 +12,7 @@ ghost use Rattle.job.specs.Transcript.{ColumnAnswer, IsNotRead};
 
 use crate::column::{OffsetFormat, built};
 use crate::fault::{JobError, JobFault};
-use crate::gather::gather;
+use crate::gather::Gathered;
 use crate::lengths::Lengths;
 use crate::part::Part;
 use kernels::length::Unit;
@@ -37,7 +37,7 @@ impl Entry<'_> {
         match built(self.format) {
             Some(known) => known.check(heap, self.part),
             None => {
-                gather::<i64>(heap, self.part)?;
+                Gathered::<i64>::gather(heap, self.part)?;
                 Err(JobError::Fault(JobFault::Kind(KindFault::Lacks)))
             }
         }

@@ -1,15 +1,7 @@
 // The lists of a column, gathered from the rows part of its record.
 
 ghost use Rattle.std.specs.Prelude.{◌≡◌, ℕ, ◌+◌, ◌*◌, ◌<◌, ◌≤◌, true, List, [], ◌∷◌, ◌++◌, length, pos, IfOk, vec_len, MatchResult, OnOk};
-ghost use Rattle.std.specs.List.{flat_map};
 ghost use Rattle.encoding.specs.Bitmap.{bit};
-ghost use Rattle.columns.specs.Faults.{number as column_fault_number};
-ghost use Rattle.job.specs.declared.fault.JobFault.TheVariants.{Record as NoRecord};
-ghost use Rattle.job.specs.Faults.{OnFault};
-ghost use Rattle.job.specs.Gathered.{Lays};
-ghost use Rattle.job.specs.Measured.{Shows};
-ghost use Rattle.job.specs.Transcript.{AllText};
-ghost use Rattle.records.specs.Layout.{GivenRow, Laid};
 
 use crate::fault::{JobError, JobFault};
 use crate::part::Part;
@@ -23,10 +15,11 @@ use std::alloc::{AllocError, Global};
 /// The lists of a column, gathered from the rows part of its record.
 #[derive(Drop)]
 pub struct Gathered<O> {
-    pub rows: usize,
     pub offsets: Vec<O>,
     pub data: Vec<u8>,
     pub validity: Vec<u8>,
+    // There is one offset more than rows.
+    ghost begun: { 0 < vec_len offsets },
 }
 
 // The number n as an offset.
@@ -51,6 +44,15 @@ fn add_bit(validity: &mut Vec<u8>, rows: usize, valid: bool) -> Result<(), Alloc
 }
 
 impl<O: Offset> Gathered<O> {
+    ghost use Rattle.std.specs.List.{flat_map};
+    ghost use Rattle.columns.specs.Faults.{number as column_fault_number};
+    ghost use Rattle.job.specs.declared.fault.JobFault.TheVariants.{Record as NoRecord};
+    ghost use Rattle.job.specs.Faults.{OnFault};
+    ghost use Rattle.job.specs.Gathered.{Lays};
+    ghost use Rattle.job.specs.Measured.{Shows};
+    ghost use Rattle.job.specs.Transcript.{AllText};
+    ghost use Rattle.records.specs.Layout.{GivenRow, Laid};
+
     // The lists of no rows.
     fn new(heap: Global) -> Result<Gathered<O>, AllocError>
         ensures { IfOk result (λ g. Lays O.Offset.number g []) }
@@ -58,7 +60,6 @@ impl<O: Offset> Gathered<O> {
         let mut offsets = Vec::new(heap);
         offsets.push(to_offset(0))?;
         Ok(Gathered {
-            rows: 0,
             offsets,
             data: Vec::new(heap),
             validity: Vec::new(heap),
@@ -68,16 +69,14 @@ impl<O: Offset> Gathered<O> {
     // Adds a row to the lists.
     fn add_row(&mut self, valid: bool, bytes: &[u8]) -> Result<(), AllocError>
         requires size { vec_len self.old.«data» + length bytes.now ≤ 65536 }
-        requires count { self.old.rows ≤ 65536 }
-        requires covered { self.old.rows ≤ 8 * vec_len self.old.validity }
+        requires covered { vec_len self.old.offsets ≤ 8 * vec_len self.old.validity + 1 }
         ensures { OnOk result ((rs : List GivenRow) → Lays O.Offset.number self.old rs
             → Lays O.Offset.number self.new (rs ++ record { valid = valid; bytes = bytes.now } ∷ [])) }
     {
+        let rows = self.offsets.len() - 1;
         self.data.extend_from_slice(bytes)?;
         self.offsets.push(to_offset(self.data.len()))?;
-        add_bit(&mut self.validity, self.rows, valid)?;
-        self.rows += 1;
-        Ok(())
+        add_bit(&mut self.validity, rows, valid)
     }
 
     /// The column over the lists. It is made unless it is text and a row is no text.
@@ -92,25 +91,25 @@ impl<O: Offset> Gathered<O> {
         };
         OffsetColumn::new(
             text,
-            self.rows,
+            self.offsets.len() - 1,
             O::lend(self.offsets.as_slice()),
             self.data.as_slice(),
             Some(map),
         )
     }
-}
 
-/// The lists over which the rows of a record stand. Refuses by 17 a part that is not laid out as rows.
-pub(crate) fn gather<O: Offset>(heap: Global, part: Part<'_>) -> Result<Gathered<O>, JobError>
-    ensures { MatchResult result (λ g. (rs : List GivenRow) × Laid part.entry.bytes.now rs × Lays O.Offset.number g rs)
-        (OnFault (λ f. (f ≡ NoRecord) × ((rs : List GivenRow) → Laid part.entry.bytes.now rs → ⊥))) }
-{
-    let mut lists = Gathered::new(heap)?;
-    let mut rest = part.bytes;
-    while !rest.is_empty() {
-        let (valid, bytes, after) = next_row(rest).ok_or(JobFault::Record)?;
-        lists.add_row(valid, bytes)?;
-        rest = after;
+    /// The lists over which the rows of a record stand. Refuses by 17 a part that is not laid out as rows.
+    pub(crate) fn gather(heap: Global, part: Part<'_>) -> Result<Gathered<O>, JobError>
+        ensures { MatchResult result (λ g. (rs : List GivenRow) × Laid part.entry.bytes.now rs × Lays O.Offset.number g rs)
+            (OnFault (λ f. (f ≡ NoRecord) × ((rs : List GivenRow) → Laid part.entry.bytes.now rs → ⊥))) }
+    {
+        let mut lists = Gathered::new(heap)?;
+        let mut rest = part.bytes;
+        while !rest.is_empty() {
+            let (valid, bytes, after) = next_row(rest).ok_or(JobFault::Record)?;
+            lists.add_row(valid, bytes)?;
+            rest = after;
+        }
+        Ok(lists)
     }
-    Ok(lists)
 }
