@@ -38,7 +38,7 @@ impl Entry<'_> {
             Some(known) => known.check(heap, self.part),
             None => {
                 Gathered::<i64>::gather(heap, self.part)?;
-                Err(JobError::Fault(JobFault::Kind(KindFault::Lacks)))
+                Err(KindFault::Lacks.into())
             }
         }
     }

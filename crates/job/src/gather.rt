@@ -39,7 +39,7 @@ fn add_bit(validity: &mut Vec<u8>, rows: usize, valid: bool) -> Result<(), Alloc
     if rows % 8 == 0 {
         validity.push(0)?;
     }
-    let _ = write(validity.as_mut_slice(), 0, rows, valid);
+    let _ = write(validity, 0, rows, valid);
     Ok(())
 }
 
@@ -86,14 +86,14 @@ impl<O: Offset> Gathered<O> {
             (λ f. (text ≡ true) × (AllText rs → ⊥) × (column_fault_number f ≡ 4)) }
     {
         let map = Bitmap {
-            bytes: self.validity.as_slice(),
+            bytes: &self.validity,
             start: 0,
         };
         OffsetColumn::new(
             text,
             self.offsets.len() - 1,
-            O::lend(self.offsets.as_slice()),
-            self.data.as_slice(),
+            O::lend(&self.offsets),
+            &self.data,
             Some(map),
         )
     }

@@ -49,9 +49,9 @@ impl<'a> Job<'a> {
         let entry = Entry { format, part };
         match entry.check(self.heap) {
             Ok(()) => {}
-            Err(JobError::Memory(e)) => return Err(JobError::Memory(e)),
+            Err(JobError::Memory(e)) => return Err(e.into()),
             Err(JobError::Fault(fault)) => match fault {
-                JobFault::Record => return Err(JobError::Fault(fault)),
+                JobFault::Record => return Err(fault.into()),
                 _ => writeln!(out, "{}", Refusal { fault })?,
             },
         }
@@ -66,7 +66,7 @@ impl<'a> Job<'a> {
             (OnFault (λ f. Ends (state_of self.old) (state_of self.new) f (string_bytes out.old) (string_bytes out.new))) }
     {
         if self.rest.len() > 65_536 {
-            return Err(JobError::Fault(JobFault::File));
+            return Err(JobFault::File.into());
         }
         let (found, after) = next_record(self.rest)?;
         if let Record::Column { format, rows } = found {
@@ -74,7 +74,7 @@ impl<'a> Job<'a> {
         } else {
             let columns = Columns {
                 heap: self.heap,
-                entries: self.columns.as_slice(),
+                entries: &self.columns,
             };
             operate(&columns, self.operations + 1, found, out)?;
             self.operations += 1;
