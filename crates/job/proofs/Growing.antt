@@ -1,8 +1,8 @@
 -- The lists of rows as they grow: a bit more, a row more, and how far the rows part is read.
-use Rattle.std.proofs.Common.{◌≡◌, ℕ, ◌+◌, ◌*◌, ◌/◌, ◌%◌, ◌^◌, ◌<◌, ◌≤◌, Bool, eqb, List, [], ◌∷◌, ◌++◌, map, length, get_or, take, drop, ℤ, pos, vec_items, vec_len, sym, refl, ap, ◌∙◌, subst, inl, inr, arith}
-use Rattle.std.proofs.lemmas.List.{length-append, length_push, append_assoc, append-nil, take_at, get_or_append_left, get_or_push, length-set, map_push, nil_from_length}
+use Rattle.std.proofs.Common.{◌≡◌, ℕ, ◌+◌, ◌*◌, ◌<◌, ◌≤◌, Bool, List, [], ◌∷◌, ◌++◌, map, length, ℤ, pos, vec_items, vec_len, sym, ap, ◌∙◌, subst, inl, inr, arith}
+use Rattle.std.proofs.lemmas.List.{length-append, length_push, append_assoc, append-nil, get_or_append_left, get_or_push, map_push, nil_from_length}
 use Rattle.std.proofs.lemmas.Bool.{cases_lt}
-use Rattle.encoding.specs.Bitmap.{bit, marked, with_bit, BitLaws}
+use Rattle.encoding.specs.Bitmap.{bit}
 use Rattle.job.specs.declared.gather.Gathered.{Gathered}
 use Rattle.records.specs.Layout.{RowAt, GivenRow, Laid}
 use Rattle.records.specs.Layout.Laid.{none, more}
@@ -13,30 +13,9 @@ use Rattle.job.proofs.Gathering.{rows_are, bytes_of, total_of, total_cons, lengt
 
 -- ---- a bit more
 
--- a byte after the others leaves their bits
-pub bit_kept : (ms : List ℕ) (b k : ℕ) → k < 8 * length ms → bit (ms ++ b ∷ []) k ≡ bit ms k
-bit_kept ms b k h = ap (λ (x : ℕ). eqb ((x / 2 ^ (k % 8)) % 2) 1) (get_or_append_left ms (b ∷ []) 0 (k / 8) (omega arith))
-
 -- what the bits say once that of row n is written: it and those of the rows before
 abbrev pub BitAdded : List ℕ → List ℕ → ℕ → Bool → Type 0
 BitAdded old new n v = (n < 8 * length new) × (bit new n ≡ v) × ((k : ℕ) → k < n → bit new k ≡ bit old k)
-
--- bytes that are filled anew with as many
-pub refill_all : (ws ms : List ℕ) (n : ℕ) → length ws ≡ n → take n (ws ++ drop (length ws) ms) ≡ ws
-refill_all ws ms n h = take_at ws (drop (length ws) ms) n h
-
-pub bit_added : (old ms ws lent : List ℕ) (size n : ℕ) (v : Bool) → BitLaws → size ≡ length ms → lent ≡ ms → ws ≡ with_bit lent (0 + n) v → n < 8 * length ms
-    → ((k : ℕ) → k < n → bit ms k ≡ bit old k) → BitAdded old (take size (ws ++ drop (length ws) ms)) n v
-bit_added old ms ws lent size n v laws s p e h kept =
-    let z : 0 + n ≡ n = omega arith in
-    let w : ws ≡ with_bit ms n v = e ∙ ap (λ (l : List ℕ). with_bit l (0 + n) v) p ∙ ap (λ (k : ℕ). with_bit ms k v) z in
-    let long : length ws ≡ length ms = ap length w ∙ length-set ms (n / 8) (marked (get_or ms (n / 8) 0) (n % 8) v) in
-    let same : take size (ws ++ drop (length ws) ms) ≡ with_bit ms n v = refill_all ws ms size (long ∙ sym s) ∙ w in
-    subst (λ (l : List ℕ). BitAdded old l n v) (sym same) (
-      omega (arith, length-set ms (n / 8) (marked (get_or ms (n / 8) 0) (n % 8) v)),
-      (laws ms n v h).0,
-      λ k l. (laws ms n v h).1 k (λ q. omega arith) ∙ kept k l,
-    )
 
 -- ---- a row more
 
@@ -99,12 +78,6 @@ pub record Taken {X : Type 0} (number : X → ℤ) (part rest : List ℕ) (g : G
   pub onward : (qs : List GivenRow) → Laid rest qs → Laid part (rs ++ qs)
   pub back : (ws : List GivenRow) → Laid part ws → (qs : List GivenRow) × (ws ≡ rs ++ qs) × Laid rest qs
   pub room : vec_len g.«data» + length rest ≤ length part
-
--- nothing is read yet
-pub taken_none : {X : Type 0} (number : X → ℤ) (part : List ℕ) (g : Gathered X) → Lays number g [] → Taken number part part g []
-taken_none number part g l =
-    let size : vec_len g.«data» ≡ 0 = g.«data».ok.0 ∙ ap length l.content in
-    record { lays = l; onward = λ qs m. m; back = λ ws m. (ws, refl, m); room = omega arith }
 
 -- a row more is read
 pub taken_more : {X : Type 0} (number : X → ℤ) (part rest t : List ℕ) (g h : Gathered X) (v : Bool) (s : List ℕ) (rs : List GivenRow) → Taken number part rest g rs
