@@ -1,5 +1,5 @@
 // Columns of a job, made anew from their records for each question.
-ghost use Rattle.std.specs.Prelude.{◌≡◌, ◌≤◌, length as size};
+ghost use Rattle.std.specs.Prelude.{◌≡◌};
 ghost use Rattle.kinds.specs.Lengths.{ceiling};
 ghost use Rattle.job.specs.Measured.{PartChecked, PartMeasured};
 ghost use Rattle.job.specs.Transcript.{built as built_format};

@@ -46,7 +46,6 @@ fn add_bit(validity: &mut Vec<u8>, rows: usize, valid: bool) -> Result<(), Alloc
 impl<O: Offset> Gathered<O> {
     ghost use Rattle.std.specs.List.{flat_map};
     ghost use Rattle.columns.specs.Faults.{number as column_fault_number};
-    ghost use Rattle.job.specs.declared.fault.JobFault.TheVariants.{Record as NoRecord};
     ghost use Rattle.job.specs.Faults.{OnFault};
     ghost use Rattle.job.specs.Gathered.{Lays};
     ghost use Rattle.job.specs.Measured.{Shows};
@@ -101,7 +100,7 @@ impl<O: Offset> Gathered<O> {
     /// The lists over which the rows of a record stand. Refuses by 17 a part that is not laid out as rows.
     pub(crate) fn gather(heap: Global, part: Part<'_>) -> Result<Gathered<O>, JobError>
         ensures { MatchResult result (λ g. (rs : List GivenRow) × Laid part.entry.bytes.now rs × Lays O.Offset.number g rs)
-            (OnFault (λ f. (f ≡ NoRecord) × ((rs : List GivenRow) → Laid part.entry.bytes.now rs → ⊥))) }
+            (OnFault (λ f. (f ≡ JobFault.Record) × ((rs : List GivenRow) → Laid part.entry.bytes.now rs → ⊥))) }
     {
         let mut lists = Gathered::new(heap)?;
         let mut rest = part.bytes;

@@ -23,7 +23,6 @@ pub struct Job<'a> {
 }
 
 impl<'a> Job<'a> {
-    ghost use Rattle.job.specs.declared.fault.JobFault.TheVariants.{Record as NoRecord};
     ghost use Rattle.job.specs.Faults.{OnFault};
     ghost use Rattle.job.specs.Steps.{state_of, Took, Ends, Made, Stepped};
     ghost use Rattle.job.specs.Taken.{NotListed};
@@ -43,7 +42,7 @@ impl<'a> Job<'a> {
     // Takes a column record. Refuses by 17, with nothing changed, letters that are no format and rows that are not laid out.
     fn take(&mut self, letters: &[u8], part: Part<'a>, out: &mut String) -> Result<(), JobError>
         ensures { MatchResult result (λ _. Took (state_of self.old) (state_of self.new) letters.now part.entry.bytes.now (string_bytes out.old) (string_bytes out.new))
-            (OnFault (λ f. (f ≡ NoRecord) × NotListed letters.now part.entry.bytes.now × (state_of self.new ≡ state_of self.old) × (string_bytes out.new ≡ string_bytes out.old))) }
+            (OnFault (λ f. (f ≡ JobFault.Record) × NotListed letters.now part.entry.bytes.now × (state_of self.new ≡ state_of self.old) × (string_bytes out.new ≡ string_bytes out.old))) }
     {
         let format = read_format(letters).ok_or(JobFault::Record)?;
         let entry = Entry { format, part };
