@@ -1,5 +1,5 @@
 -- Columns of a job by their numbers.
-use Rattle.std.proofs.Common.{◌≡◌, ℕ, ◌<◌, ◌≤◌, true, List, length, get_or, Some, Ok, Err, Option, Result, MatchResult, sym, refl, ap, ◌∙◌, subst, arith}
+use Rattle.std.proofs.Common.{◌≡◌, ℕ, ◌<◌, true, List, length, get_or, Some, Ok, Err, Option, Result, MatchResult, sym, refl, ap, ◌∙◌, subst, arith}
 use Rattle.std.proofs.lemmas.List.{get_or-map, length-map}
 use Rattle.kernels.specs.declared.length.LengthFault.TheVariants.{Rows}
 use Rattle.kernels.specs.declared.length.Unit as unit
@@ -31,9 +31,6 @@ has_at es k e f h q b = record {
   format = b;
   part_is = refl;
 }
-
-pub has_none : (es : List Entry) (k : ℕ) (f : OffsetFormat) (part : List ℕ) → length es ≤ k → Has (records_of es) k f part → ⊥
-has_none es k f part l h = omega (arith, h.inside, length-map es record_of)
 
 pub has_only : (es : List Entry) (k : ℕ) (e : Entry) (f : OffsetFormat) (part : List ℕ) → k < length es → e ≡ get_or es k e → Has (records_of es) k f part → built e.format ≡ Some f
 has_only es k e f part l q h = ap (λ (c : ColumnRecord). built c.format) (sym (sym (h.here h.taken) ∙ at_entry es k e l q h.taken)) ∙ h.format

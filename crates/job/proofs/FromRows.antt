@@ -1,5 +1,5 @@
 -- A column over the rows of a record.
-use Rattle.std.proofs.Common.{◌≡◌, ℕ, ◌+◌, ◌*◌, ◌<◌, ◌≤◌, Bool, true, cond, not, List, [], ◌∷◌, map, length, get_or, ℤ, Some, Ok, Err, vec_items, Bor, Result, sym, refl, ap, ◌∙◌, subst, arith, MatchResult}
+use Rattle.std.proofs.Common.{◌≡◌, ℕ, ◌+◌, ◌*◌, ◌<◌, ◌≤◌, Bool, true, cond, not, List, [], ◌∷◌, map, length, get_or, ℤ, Some, Ok, Err, vec_items, vec_len, Bor, Result, sym, refl, ap, ◌∙◌, subst, arith, MatchResult}
 use Rattle.std.proofs.lemmas.List.{length-map}
 use Rattle.std.proofs.lemmas.Bool.{le-leb}
 use Rattle.encoding.specs.Bitmap.{bit}
@@ -32,7 +32,7 @@ use Rattle.job.specs.Gathered.{starts_of, given_of_row, Lays}
 use Rattle.job.specs.Faults.{OnFault}
 use Rattle.job.specs.Measured.{null_rows, Shows, Tells, MeasuredAs, PartChecked, PartMeasured}
 use Rattle.job.specs.Transcript.{AllText, nulls, sizes}
-use Rattle.job.proofs.Gathering.{stands}
+use Rattle.job.proofs.Gathering.{stands, rows_are}
 
 -- the lists l hold the rows rs
 pub record Over (l : Lists) (rs : List GivenRow) : Type 0 where
@@ -92,15 +92,15 @@ made_over l k rs (Ok c) o q h = granted_over l k rs c o q h
 made_over l k rs (Err f) o q h = refused_over l rs f o h
 
 -- the lists that were gathered hold the rows
-pub over_from : {X : Type 0} (number : X → ℤ) (g : Gathered X) (rs : List GivenRow) (text : Bool) (o : Offsets) (ds : Bor (List ℕ)) (m : Bitmap)
-    → Lays number g rs → length rs ≤ 65536 → length (flat_map (λ r. r.bytes) rs) ≤ 65536 → 2147483647 ≤ ceiling_of o → numbers o ≡ map number (vec_items g.offsets)
+pub over_from : {X : Type 0} (number : X → ℤ) (g : Gathered X) (rs : List GivenRow) (text : Bool) (n : ℕ) (o : Offsets) (ds : Bor (List ℕ)) (m : Bitmap)
+    → Lays number g rs → n + 1 ≡ vec_len g.offsets → length rs ≤ 65536 → length (flat_map (λ r. r.bytes) rs) ≤ 65536 → 2147483647 ≤ ceiling_of o → numbers o ≡ map number (vec_items g.offsets)
     → ds.now ≡ vec_items g.«data» → m.bytes.now ≡ vec_items g.validity → m.start ≡ 0
-    → Over (record { text = text; rows = g.rows; offsets = o; «data» = ds; validity = Some m }) rs
-over_from number g rs text o ds m y few low k p q b z = record {
-  counted = y.counted;
+    → Over (record { text = text; rows = n; offsets = o; «data» = ds; validity = Some m }) rs
+over_from number g rs text n o ds m y r few low k p q b z = record {
+  counted = omega (arith, rows_are number g rs y, r);
   starts = p ∙ y.starts;
   content = q ∙ y.content;
-  covered = le-leb (m.start + g.rows) (8 * length m.bytes.now) (omega (arith, y.covered, ap length b, z));
+  covered = le-leb (m.start + n) (8 * length m.bytes.now) (omega (arith, rows_are number g rs y, r, y.covered, ap length b, z));
   bits = λ i d l. (λ j. bit (b j) (sums i j)) ∙ y.bits i d l;
   few = omega arith;
   low = omega arith;

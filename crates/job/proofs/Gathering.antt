@@ -1,7 +1,7 @@
 -- Rows gathered into the lists of a column: what the column over these lists means, and how the lists grow.
-use Rattle.std.proofs.Common.{◌≡◌, ℕ, zero, suc, ◌+◌, ◌-◌, ◌<◌, ◌≤◌, Bool, true, List, [], ◌∷◌, ◌++◌, map, length, get_or, take, drop, ℤ, pos, ◌≤ℤ◌, sum_by, sym, refl, ap, ◌∙◌, subst, arith}
+use Rattle.std.proofs.Common.{◌≡◌, ℕ, zero, suc, ◌+◌, ◌-◌, ◌<◌, ◌≤◌, Bool, true, List, [], ◌∷◌, ◌++◌, map, length, get_or, take, drop, ℤ, pos, ◌≤ℤ◌, sum_by, vec_items, vec_len, sym, refl, ap, ◌∙◌, subst, arith}
 use Rattle.std.specs.List.{range_with_len, flat_map, between}
-use Rattle.std.proofs.lemmas.List.{length-append, append_assoc, take_at, drop_at, drop_more, take-append-drop, same_lists}
+use Rattle.std.proofs.lemmas.List.{length-append, length-map, append_assoc, take_at, drop_at, drop_more, take-append-drop, same_lists}
 use Rattle.std.proofs.lemmas.List.Sums.{sum_by-cons, sum_by_more, sum_by-take-le}
 use Rattle.std.proofs.lemmas.List.FromFn.{length-map-range_with_len, get_or-map-range_with_len}
 use Rattle.std.proofs.lemmas.Int.{ints}
@@ -10,7 +10,8 @@ use Rattle.columns.specs.declared.lists.Lists.{Lists}
 use Rattle.columns.specs.Lists.{valid_at, covers, bytes_at, row_at, meaning_of, Shaped, Ordered}
 use Rattle.records.specs.Layout.{GivenRow, Laid}
 use Rattle.records.specs.Layout.Laid.{none, more}
-use Rattle.job.specs.Gathered.{starts_of, given_of_row}
+use Rattle.job.specs.declared.gather.Gathered.{Gathered}
+use Rattle.job.specs.Gathered.{starts_of, given_of_row, Lays}
 use Rattle.records.proofs.Little.{reads_fits}
 
 -- the bytes of these rows, one after another
@@ -141,3 +142,7 @@ laid_small (more {b = b} {rest = rest} {s = s} {v = v} {rs = rs} r l) =
     let q = length-append s rest in
     let z = length-append s (flat_map (λ r. r.bytes) rs) in
     (omega arith, omega arith)
+
+-- the lists of rows have one offset more than rows
+pub rows_are : {X : Type 0} (number : X → ℤ) (g : Gathered X) (rs : List GivenRow) → Lays number g rs → vec_len g.offsets ≡ length rs + 1
+rows_are number g rs y = g.offsets.ok.0 ∙ sym (length-map (vec_items g.offsets) number) ∙ ap length y.starts ∙ length_starts 0 rs

@@ -1,42 +1,21 @@
 -- The lists of rows as they grow: a bit more, a row more, and how far the rows part is read.
-use Rattle.std.proofs.Common.{◌≡◌, ℕ, ◌+◌, ◌*◌, ◌/◌, ◌%◌, ◌^◌, ◌<◌, ◌≤◌, Bool, eqb, List, [], ◌∷◌, ◌++◌, map, length, get_or, take, drop, ℤ, pos, vec_items, vec_len, sym, refl, ap, ◌∙◌, subst, inl, inr, arith}
-use Rattle.std.proofs.lemmas.List.{length-append, length_push, append_assoc, append-nil, take_at, get_or_append_left, get_or_push, length-set, map_push, nil_from_length}
+use Rattle.std.proofs.Common.{◌≡◌, ℕ, ◌+◌, ◌*◌, ◌<◌, ◌≤◌, Bool, List, [], ◌∷◌, ◌++◌, map, length, ℤ, pos, vec_items, vec_len, sym, ap, ◌∙◌, subst, inl, inr, arith}
+use Rattle.std.proofs.lemmas.List.{length-append, length_push, append_assoc, append-nil, get_or_append_left, get_or_push, map_push, nil_from_length}
 use Rattle.std.proofs.lemmas.Bool.{cases_lt}
-use Rattle.encoding.specs.Bitmap.{bit, marked, with_bit, BitLaws}
+use Rattle.encoding.specs.Bitmap.{bit}
 use Rattle.job.specs.declared.gather.Gathered.{Gathered}
 use Rattle.records.specs.Layout.{RowAt, GivenRow, Laid}
 use Rattle.records.specs.Layout.Laid.{none, more}
 use Rattle.job.specs.Gathered.{starts_of, Lays}
 use Rattle.records.proofs.RowParts.{row_same}
 use Rattle.records.proofs.Little.{reads_fits}
-use Rattle.job.proofs.Gathering.{bytes_of, total_of, total_cons, length_bytes, bytes_append}
+use Rattle.job.proofs.Gathering.{rows_are, bytes_of, total_of, total_cons, length_bytes, bytes_append}
 
 -- ---- a bit more
-
--- a byte after the others leaves their bits
-pub bit_kept : (ms : List ℕ) (b k : ℕ) → k < 8 * length ms → bit (ms ++ b ∷ []) k ≡ bit ms k
-bit_kept ms b k h = ap (λ (x : ℕ). eqb ((x / 2 ^ (k % 8)) % 2) 1) (get_or_append_left ms (b ∷ []) 0 (k / 8) (omega arith))
 
 -- what the bits say once that of row n is written: it and those of the rows before
 abbrev pub BitAdded : List ℕ → List ℕ → ℕ → Bool → Type 0
 BitAdded old new n v = (n < 8 * length new) × (bit new n ≡ v) × ((k : ℕ) → k < n → bit new k ≡ bit old k)
-
--- bytes that are filled anew with as many
-pub refill_all : (ws ms : List ℕ) (n : ℕ) → length ws ≡ n → take n (ws ++ drop (length ws) ms) ≡ ws
-refill_all ws ms n h = take_at ws (drop (length ws) ms) n h
-
-pub bit_added : (old ms ws lent : List ℕ) (size n : ℕ) (v : Bool) → BitLaws → size ≡ length ms → lent ≡ ms → ws ≡ with_bit lent (0 + n) v → n < 8 * length ms
-    → ((k : ℕ) → k < n → bit ms k ≡ bit old k) → BitAdded old (take size (ws ++ drop (length ws) ms)) n v
-bit_added old ms ws lent size n v laws s p e h kept =
-    let z : 0 + n ≡ n = omega arith in
-    let w : ws ≡ with_bit ms n v = e ∙ ap (λ (l : List ℕ). with_bit l (0 + n) v) p ∙ ap (λ (k : ℕ). with_bit ms k v) z in
-    let long : length ws ≡ length ms = ap length w ∙ length-set ms (n / 8) (marked (get_or ms (n / 8) 0) (n % 8) v) in
-    let same : take size (ws ++ drop (length ws) ms) ≡ with_bit ms n v = refill_all ws ms size (long ∙ sym s) ∙ w in
-    subst (λ (l : List ℕ). BitAdded old l n v) (sym same) (
-      omega (arith, length-set ms (n / 8) (marked (get_or ms (n / 8) 0) (n % 8) v)),
-      (laws ms n v h).0,
-      λ k l. (laws ms n v h).1 k (λ q. omega arith) ∙ kept k l,
-    )
 
 -- ---- a row more
 
@@ -48,18 +27,17 @@ starts_push a (q ∷ rs) r =
     ap (λ (z : List ℤ). pos a ∷ z) (starts_push (a + length q.bytes) rs r ∙ ap (λ (z : ℕ). starts_of (a + length q.bytes) rs ++ pos z ∷ []) e)
 
 -- the lists with a row more
-pub lays_push : {X : Type 0} (number : X → ℤ) (g h : Gathered X) (x : X) (v : Bool) (s : List ℕ) → h.rows ≡ g.rows + 1
+pub lays_push : {X : Type 0} (number : X → ℤ) (g h : Gathered X) (x : X) (v : Bool) (s : List ℕ) (n : ℕ) → n + 1 ≡ vec_len g.offsets
     → vec_items h.offsets ≡ vec_items g.offsets ++ x ∷ [] → number x ≡ pos (vec_len h.«data») → vec_items h.«data» ≡ vec_items g.«data» ++ s
-    → BitAdded (vec_items g.validity) (vec_items h.validity) g.rows v
+    → BitAdded (vec_items g.validity) (vec_items h.validity) n v
     → (rs : List GivenRow) → Lays number g rs → Lays number h (rs ++ record { valid = v; bytes = s } ∷ [])
-lays_push {X} number g h x v s n o e d b rs l =
+lays_push {X} number g h x v s n m o e d b rs l =
     let r : GivenRow = record { valid = v; bytes = s } in
-    let c = l.counted in
+    let c = rows_are number g rs l in
     let long = length_push rs r in
     let size : vec_len h.«data» ≡ 0 + total_of rs + length s =
     h.«data».ok.0 ∙ ap length d ∙ length-append (vec_items g.«data») s ∙ ap (λ (z : ℕ). z + length s) (ap length l.content ∙ length_bytes rs ∙ omega arith) in
     record {
-      counted = omega arith;
       starts = ap (map number) o ∙ map_push number (vec_items g.offsets) x ∙ ap (λ (z : List ℤ). z ++ number x ∷ []) l.starts
           ∙ ap (λ (z : ℤ). starts_of 0 rs ++ z ∷ []) (e ∙ ap pos size) ∙ sym (starts_push 0 rs r);
       content = d ∙ ap (λ (z : List ℕ). z ++ s) l.content ∙ ap (λ (z : List ℕ). bytes_of rs ++ z) (sym (append-nil s)) ∙ sym (bytes_append rs (r ∷ []));
@@ -67,7 +45,7 @@ lays_push {X} number g h x v s n o e d b rs l =
       bits = λ k q i. elim (cases_lt k (length rs)) [
         | inl a ↦ b.2 k (omega arith) ∙ l.bits k q a ∙ sym (ap (λ (z : GivenRow). z.valid) (get_or_append_left rs (r ∷ []) q k a))
         | inr a ↦
-            let f : k ≡ g.rows = omega arith in
+            let f : k ≡ n = omega arith in
             ap (bit (vec_items h.validity)) f ∙ b.1 ∙ sym (ap (λ (z : GivenRow). z.valid) (get_or_push rs r q k (omega arith)))
       ];
     }
@@ -100,14 +78,6 @@ pub record Taken {X : Type 0} (number : X → ℤ) (part rest : List ℕ) (g : G
   pub onward : (qs : List GivenRow) → Laid rest qs → Laid part (rs ++ qs)
   pub back : (ws : List GivenRow) → Laid part ws → (qs : List GivenRow) × (ws ≡ rs ++ qs) × Laid rest qs
   pub room : vec_len g.«data» + length rest ≤ length part
-  pub few : g.rows + length rest ≤ length part
-
--- nothing is read yet
-pub taken_none : {X : Type 0} (number : X → ℤ) (part : List ℕ) (g : Gathered X) → Lays number g [] → Taken number part part g []
-taken_none number part g l =
-    let size : vec_len g.«data» ≡ 0 = g.«data».ok.0 ∙ ap length l.content in
-    let none = l.counted in
-    record { lays = l; onward = λ qs m. m; back = λ ws m. (ws, refl, m); room = omega arith; few = omega arith }
 
 -- a row more is read
 pub taken_more : {X : Type 0} (number : X → ℤ) (part rest t : List ℕ) (g h : Gathered X) (v : Bool) (s : List ℕ) (rs : List GivenRow) → Taken number part rest g rs
@@ -118,11 +88,7 @@ taken_more number part rest t g h v s rs k r l =
     let size : vec_len h.«data» ≡ vec_len g.«data» + length s =
     h.«data».ok.0 ∙ ap length (l.content ∙ bytes_append rs (q ∷ []) ∙ ap (λ (z : List ℕ). bytes_of rs ++ z) (append-nil s))
     ∙ length-append (bytes_of rs) s ∙ ap (λ (z : ℕ). z + length s) (sym (g.«data».ok.0 ∙ ap length k.lays.content)) in
-    let a = l.counted in
-    let b = k.lays.counted in
-    let p = length_push rs q in
     let x = k.room in
-    let y = k.few in
     record {
       lays = l;
       onward = λ qs m. subst (Laid part) (sym (append_assoc rs (q ∷ []) qs)) (k.onward (q ∷ qs) (more r m));
@@ -131,7 +97,6 @@ taken_more number part rest t g h v s rs k r l =
           let f = laid_first v s t r o.2 in
           (f.0, o.1 ∙ ap (λ (z : List GivenRow). rs ++ z) f.1 ∙ sym (append_assoc rs (q ∷ []) f.0), f.2);
       room = omega arith;
-      few = omega arith;
     }
 
 -- all is read

@@ -1,5 +1,5 @@
 -- What operations print.
-use Rattle.std.proofs.Common.{◌≡◌, ℕ, Bool, ◌⊎◌, List, ◌++◌, length, ℤ, Ok, Err, vec_items, Result, sym, ap, ◌∙◌, subst, inl, inr, append_assoc}
+use Rattle.std.proofs.Common.{◌≡◌, ℕ, Bool, ◌⊎◌, List, ◌++◌, length, ℤ, Ok, Err, vec_items, Result, sym, ap, ◌∙◌, subst, inl, inr}
 use Rattle.std.specs.List.{flat_map}
 use Rattle.std.proofs.lemmas.List.{length-map}
 use Rattle.kernels.specs.Lengths.{numbers_in, over_in}
@@ -58,7 +58,3 @@ operation_lacking cs n a b x (Err (Fault (Kind (Length f)))) added h to from p q
 pub lacking_unread : (cs : List ColumnRecord) (a b c : ℕ) (e : JobError) → (a ≡ c) ⊎ (b ≡ c) → OnFault (λ f. (f ≡ NotRead) × IsNotRead cs c) e → LackingAnswered cs a b (Err e)
 lacking_unread cs a b c (Memory m) h k = tt
 lacking_unread cs a b c (Fault f) h k = rw k.0 (c, h, k.1)
-
--- bytes added after bytes
-pub added_after : (start before after x y : List ℕ) → before ≡ start ++ x → after ≡ before ++ y → after ≡ start ++ (x ++ y)
-added_after start before after x y p q = q ∙ ap (λ (s : List ℕ). s ++ y) p ∙ append_assoc start x y

@@ -1,18 +1,14 @@
 -- Steps of a job.
 use Rattle.std.proofs.Common.{◌≡◌, ℕ, ◌+◌, ◌<◌, ◌≤◌, List, [], ◌∷◌, ◌++◌, length, sym, refl, ap, ◌∙◌, subst, append_assoc, append-nil, arith, Bor}
-use Rattle.std.proofs.lemmas.List.{length-append}
 use Rattle.records.specs.Layout.{Stands, Laid, given_of}
 use Rattle.records.specs.declared.record.Record.{Record}
 use Rattle.records.specs.declared.record.Record.TheVariants.{Column, Cut, CutByCharacter, Join, Length, BitLength}
 use Rattle.records.proofs.Records.{stands_same, stands_shorter}
-use Rattle.job.specs.declared.fault.JobFault.{JobFault}
 use Rattle.job.specs.declared.fault.JobFault.TheVariants.{File, Record as NoRecord}
-use Rattle.job.specs.Faults.{number}
-use Rattle.job.specs.Lines.{refusal_line}
 use Rattle.job.specs.Printed.{OperatePrinted}
 use Rattle.job.specs.Steps.{Took, Ends, Made}
 use Rattle.job.specs.Taken.{NotListed}
-use Rattle.job.specs.Transcript.{ColumnRecord, State, ended, Step, too_long, bad, column, operation, Listed, Operation, Runs, done, more}
+use Rattle.job.specs.Transcript.{ColumnRecord, State, Step, too_long, bad, column, operation, Listed, Operation, Runs, done, more}
 
 -- what ends the job
 pub ends_long : (s : State) (out : List ℕ) → 65536 < length s.rest → Ends s s File out out
@@ -20,16 +16,6 @@ ends_long s out l = record { step = too_long l; same = refl; silent = refl }
 
 pub ends_bad : (s : State) (out : List ℕ) → 0 < length s.rest → length s.rest ≤ 65536 → ((x : Record) (u : List ℕ) → Stands s.rest x u → ⊥) → Ends s s NoRecord out out
 ends_bad s out l k n = record { step = bad l k (λ x u p _. n x u p); same = refl; silent = refl }
-
--- the step that such a fault makes, once it is printed
-pub ended_made : (s t : State) (f : JobFault) (before mid after : List ℕ) → 0 < length s.rest → Ends s t f before mid → after ≡ mid ++ refusal_line (number f)
-    → Made s (ended t) before after
-ended_made s t f before mid after l h p = record {
-  added = refusal_line (number f);
-  printed = p ∙ ap (λ (o : List ℕ). o ++ refusal_line (number f)) h.silent;
-  stepped = subst (λ (u : State). Step s (refusal_line (number f)) (ended u)) (sym h.same) h.step;
-  shorter = l;
-}
 
 -- a column record that is listed at all is listed by the parts of any record that stands there
 not_listed_by : (x : Record) (f p : Bor (List ℕ)) → given_of x ≡ given_of (Column f p) → NotListed f.now p.now → Listed x → ⊥
@@ -82,22 +68,6 @@ operate_added cs n (CutByCharacter k s l) before after h o = o
 operate_added cs n (Join j k) before after h o = o
 operate_added cs n (Length k) before after h o = o
 operate_added cs n (BitLength k) before after h o = o
-
--- the rows part of a column record is no longer than the file
-pub part_small : (file rest : List ℕ) (x : Record) (f p : Bor (List ℕ)) → x ≡ Column f p → Stands file x rest → length p.now ≤ length file
-part_small file rest x f p e h =
-    let w = subst (λ (y : Record). Stands file y rest) e h in
-    let body = w.0 in
-    omega (
-      arith,
-      ap length w.2.3,
-      length-append w.2.0 w.1,
-      ap length w.3.3,
-      length-append w.3.0 (body ++ rest),
-      length-append body rest,
-      ap length w.4,
-      length-append f.now p.now,
-    )
 
 -- a whole run, step by step
 abbrev pub GoesOn : State → State → List ℕ → Type 0

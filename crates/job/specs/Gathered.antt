@@ -17,8 +17,7 @@ given_of_row r = record { valid = r.valid; bytes = r.bytes }
 
 -- the lists g hold the rows rs: offset k is the sum of the first k lengths, the data is the rows' bytes one after another, bit k says whether row k is valid
 pub record Lays {X : Type 0} (number : X → ℤ) (g : Gathered X) (rs : List GivenRow) : Type 0 where
-  pub counted : g.rows ≡ length rs
   pub starts : map number (vec_items g.offsets) ≡ starts_of 0 rs
   pub content : vec_items g.«data» ≡ flat_map (λ r. r.bytes) rs
-  pub covered : g.rows ≤ 8 * length (vec_items g.validity)
+  pub covered : length rs ≤ 8 * length (vec_items g.validity)
   pub bits : (k : ℕ) (d : GivenRow) → k < length rs → bit (vec_items g.validity) k ≡ (slice_index_or rs k d).valid

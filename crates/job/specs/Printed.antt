@@ -18,7 +18,7 @@ use Rattle.job.specs.Transcript.{ColumnRecord, Read, IsNotRead, Operation}
 abbrev pub IsRead : List ColumnRecord → ℕ → Type 0
 IsRead cs c = (k : OffsetFormat) × (rs : List GivenRow) × Read cs c k rs
 
--- what operation n prints that has this answer; want of memory prints nothing
+-- what operation n prints that has this answer: its lengths, or the number of its fault; want of memory is not printed
 abbrev pub Prints : ℕ → Result Lengths JobError → List ℕ → Type 0
 Prints n (Ok m) s = s ≡ line n 0 m.rows m.nulls m.wrapped ++ flat_map number_line (vec_items m.numbers)
 Prints n (Err (Memory e)) s = ⊥

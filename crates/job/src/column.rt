@@ -1,11 +1,11 @@
 // Columns of a job, made anew from their records for each question.
-ghost use Rattle.std.specs.Prelude.{◌≡◌, ◌≤◌, length as size};
+ghost use Rattle.std.specs.Prelude.{◌≡◌};
 ghost use Rattle.kinds.specs.Lengths.{ceiling};
 ghost use Rattle.job.specs.Measured.{PartChecked, PartMeasured};
 ghost use Rattle.job.specs.Transcript.{built as built_format};
 
 use crate::fault::JobError;
-use crate::gather::gather;
+use crate::gather::Gathered;
 use crate::lengths::{Lengths, lengths_of};
 use crate::part::Part;
 use encoding::offset::Offset;
@@ -38,7 +38,7 @@ pub fn built(format: Format) -> Option<OffsetFormat>
 fn check_in<O: Offset>(heap: Global, text: bool, part: Part<'_>) -> Result<(), JobError>
     ensures { PartChecked text part.entry.bytes.now result }
 {
-    gather::<O>(heap, part)?.column(text)?;
+    Gathered::<O>::gather(heap, part)?.column(text)?;
     Ok(())
 }
 
@@ -51,7 +51,7 @@ fn measure_in<O: Offset>(
 ) -> Result<Lengths, JobError>
     ensures { PartMeasured unit text O.Offset.ceiling part.entry.bytes.now result }
 {
-    let lists = gather::<O>(heap, part)?;
+    let lists = Gathered::<O>::gather(heap, part)?;
     let column = lists.column(text)?;
     lengths_of(heap, &column, unit)
 }

@@ -2,7 +2,6 @@
 ghost use Rattle.std.specs.Prelude.{◌≡◌, ℕ, List, None, MatchOption, MatchResult};
 ghost use Rattle.records.specs.Layout.{GivenRow, Laid};
 ghost use Rattle.job.specs.declared.column.OffsetFormat.{OffsetFormat as Built};
-ghost use Rattle.job.specs.declared.fault.JobFault.TheVariants.{NotRead as IsUnread};
 ghost use Rattle.job.specs.Faults.{OnFault};
 ghost use Rattle.job.specs.Measured.{ColumnMeasured};
 ghost use Rattle.job.specs.Printed.{IsRead};
@@ -12,7 +11,7 @@ ghost use Rattle.job.specs.Transcript.{ColumnAnswer, IsNotRead};
 
 use crate::column::{OffsetFormat, built};
 use crate::fault::{JobError, JobFault};
-use crate::gather::gather;
+use crate::gather::Gathered;
 use crate::lengths::Lengths;
 use crate::part::Part;
 use kernels::length::Unit;
@@ -37,8 +36,8 @@ impl Entry<'_> {
         match built(self.format) {
             Some(known) => known.check(heap, self.part),
             None => {
-                gather::<i64>(heap, self.part)?;
-                Err(JobError::Fault(JobFault::Kind(KindFault::Lacks)))
+                Gathered::<i64>::gather(heap, self.part)?;
+                Err(KindFault::Lacks.into())
             }
         }
     }
@@ -65,7 +64,7 @@ impl<'a> Columns<'_, 'a> {
     /// Whether a column of a job is read. Refuses by 18 where it is not.
     pub(crate) fn check(&self, column: u16) -> Result<(), JobError>
         ensures { MatchResult result (λ _. IsRead (records_of self.now.entries.now) column)
-            (OnFault (λ f. (f ≡ IsUnread) × IsNotRead (records_of self.now.entries.now) column)) }
+            (OnFault (λ f. (f ≡ JobFault.NotRead) × IsNotRead (records_of self.now.entries.now) column)) }
     {
         let (format, part) = self.find(column).ok_or(JobFault::NotRead)?;
         format.check(self.heap, part).map_err(JobError::unread)

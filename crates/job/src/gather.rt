@@ -1,17 +1,9 @@
 // The lists of a column, gathered from the rows part of its record.
 
 ghost use Rattle.std.specs.Prelude.{◌≡◌, ℕ, ◌+◌, ◌*◌, ◌<◌, ◌≤◌, true, List, [], ◌∷◌, ◌++◌, length, pos, IfOk, vec_len, MatchResult, OnOk};
-ghost use Rattle.std.specs.List.{flat_map};
 ghost use Rattle.encoding.specs.Bitmap.{bit};
-ghost use Rattle.columns.specs.Faults.{number as column_fault_number};
-ghost use Rattle.job.specs.declared.fault.JobFault.TheVariants.{Record as NoRecord};
-ghost use Rattle.job.specs.Faults.{OnFault};
-ghost use Rattle.job.specs.Gathered.{Lays};
-ghost use Rattle.job.specs.Measured.{Shows};
-ghost use Rattle.job.specs.Transcript.{AllText};
-ghost use Rattle.records.specs.Layout.{GivenRow, Laid};
 
-use crate::fault::JobError;
+use crate::fault::{JobError, JobFault};
 use crate::part::Part;
 use columns::fault::ColumnFault;
 use columns::lists::Lists;
@@ -24,10 +16,11 @@ use std::alloc::{AllocError, Global};
 /// The lists of a column, gathered from the rows part of its record.
 #[derive(Drop)]
 pub struct Gathered<O> {
-    pub rows: usize,
     pub offsets: Vec<O>,
     pub data: Vec<u8>,
     pub validity: Vec<u8>,
+    // There is one offset more than rows.
+    ghost begun: { 0 < vec_len offsets },
 }
 
 // The number n as an offset.
@@ -47,11 +40,19 @@ fn add_bit(validity: &mut Vec<u8>, rows: usize, valid: bool) -> Result<(), Alloc
     if rows % 8 == 0 {
         validity.push(0)?;
     }
-    let _ = write(validity.as_mut_slice(), 0, rows, valid);
+    let _ = write(validity, 0, rows, valid);
     Ok(())
 }
 
 impl<O: Offset> Gathered<O> {
+    ghost use Rattle.std.specs.List.{flat_map};
+    ghost use Rattle.columns.specs.Faults.{number as column_fault_number};
+    ghost use Rattle.job.specs.Faults.{OnFault};
+    ghost use Rattle.job.specs.Gathered.{Lays};
+    ghost use Rattle.job.specs.Measured.{Shows};
+    ghost use Rattle.job.specs.Transcript.{AllText};
+    ghost use Rattle.records.specs.Layout.{GivenRow, Laid};
+
     // The lists of no rows.
     fn new(heap: Global) -> Result<Gathered<O>, AllocError>
         ensures { IfOk result (λ g. Lays O.Offset.number g []) }
@@ -59,7 +60,6 @@ impl<O: Offset> Gathered<O> {
         let mut offsets = Vec::new(heap);
         offsets.push(to_offset(0))?;
         Ok(Gathered {
-            rows: 0,
             offsets,
             data: Vec::new(heap),
             validity: Vec::new(heap),
@@ -69,16 +69,14 @@ impl<O: Offset> Gathered<O> {
     // Adds a row to the lists.
     fn add_row(&mut self, row: Row<'_>) -> Result<(), AllocError>
         requires size { vec_len self.old.«data» + length row.bytes.now ≤ 65536 }
-        requires count { self.old.rows ≤ 65536 }
-        requires covered { self.old.rows ≤ 8 * vec_len self.old.validity }
+        requires covered { vec_len self.old.offsets ≤ 8 * vec_len self.old.validity + 1 }
         ensures { OnOk result ((rs : List GivenRow) → Lays O.Offset.number self.old rs
             → Lays O.Offset.number self.new (rs ++ record { valid = row.entry.valid; bytes = row.entry.bytes.now } ∷ [])) }
     {
+        let rows = self.offsets.len() - 1;
         self.data.extend_from_slice(row.bytes)?;
         self.offsets.push(to_offset(self.data.len()))?;
-        add_bit(&mut self.validity, self.rows, row.valid)?;
-        self.rows += 1;
-        Ok(())
+        add_bit(&mut self.validity, rows, row.valid)
     }
 
     /// The column over the lists. It is made unless it is text and a row is no text.
@@ -88,30 +86,30 @@ impl<O: Offset> Gathered<O> {
             (λ f. (text ≡ true) × (AllText rs → ⊥) × (column_fault_number f ≡ 4)) }
     {
         let map = Bitmap {
-            bytes: self.validity.as_slice(),
+            bytes: &self.validity,
             start: 0,
         };
         OffsetColumn::new(Lists {
             text,
-            rows: self.rows,
-            offsets: O::lend(self.offsets.as_slice()),
-            data: self.data.as_slice(),
+            rows: self.offsets.len() - 1,
+            offsets: O::lend(&self.offsets),
+            data: &self.data,
             validity: Some(map),
         })
     }
-}
 
-/// The lists over which the rows of a record stand. Refuses by 17 a part that is not laid out as rows.
-pub(crate) fn gather<O: Offset>(heap: Global, part: Part<'_>) -> Result<Gathered<O>, JobError>
-    ensures { MatchResult result (λ g. (rs : List GivenRow) × Laid part.entry.bytes.now rs × Lays O.Offset.number g rs)
-        (OnFault (λ f. (f ≡ NoRecord) × ((rs : List GivenRow) → Laid part.entry.bytes.now rs → ⊥))) }
-{
-    let mut lists = Gathered::new(heap)?;
-    let mut rest = part.bytes;
-    while !rest.is_empty() {
-        let (row, after) = next_row(rest)?;
-        lists.add_row(row)?;
-        rest = after;
+    /// The lists over which the rows of a record stand. Refuses by 17 a part that is not laid out as rows.
+    pub(crate) fn gather(heap: Global, part: Part<'_>) -> Result<Gathered<O>, JobError>
+        ensures { MatchResult result (λ g. (rs : List GivenRow) × Laid part.entry.bytes.now rs × Lays O.Offset.number g rs)
+            (OnFault (λ f. (f ≡ JobFault.Record) × ((rs : List GivenRow) → Laid part.entry.bytes.now rs → ⊥))) }
+    {
+        let mut lists = Gathered::new(heap)?;
+        let mut rest = part.bytes;
+        while !rest.is_empty() {
+            let (row, after) = next_row(rest)?;
+            lists.add_row(row)?;
+            rest = after;
+        }
+        Ok(lists)
     }
-    Ok(lists)
 }

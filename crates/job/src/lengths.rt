@@ -1,5 +1,5 @@
 // The lengths of a column, as an operation prints them.
-ghost use Rattle.std.specs.Prelude.{◌≡◌, ℕ, ◌<◌, ◌≤◌, cond, length as size, take, IfOk};
+ghost use Rattle.std.specs.Prelude.{◌≡◌, ◌≤◌, cond, take, IfOk};
 ghost use Rattle.columns.specs.OffsetColumn.{lists_of};
 ghost use Rattle.kinds.specs.Lengths.{room};
 ghost use Rattle.job.specs.Measured.{null_rows, MeasuredAs};
@@ -48,7 +48,8 @@ fn numbers_of(
     }
 }
 
-// The lengths of a column in a unit, by way of two lists, one for each width. Refuses by 12 where it has more rows than a list has places.
+// The lengths of a column in a unit, by way of two lists, one for each width. Refuses by 12 where it has more rows than a
+// list has places.
 pub(crate) fn lengths_of(
     heap: Global,
     column: &OffsetColumn<'_>,

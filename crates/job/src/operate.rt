@@ -6,7 +6,7 @@ ghost use Rattle.job.specs.Printed.{Prints, LackingAnswered, OperatePrinted};
 ghost use Rattle.job.specs.States.{records_of};
 
 use crate::entry::Columns;
-use crate::fault::{JobError, JobFault};
+use crate::fault::JobError;
 use crate::lengths::Lengths;
 use crate::print::Line;
 use kernels::length::Unit;
@@ -31,7 +31,7 @@ fn put_answer(out: &mut String, n: u64, answer: Result<Lengths, JobError>) -> Re
     match answer {
         Ok(lengths) => {
             writeln!(out, "{}", Line::measured(n, &lengths))?;
-            put_numbers(out, lengths.numbers.as_slice())
+            put_numbers(out, &lengths.numbers)
         }
         Err(JobError::Fault(fault)) => writeln!(out, "{}", Line::refused(n, fault)),
         Err(JobError::Memory(e)) => Err(e),
@@ -44,7 +44,7 @@ fn lacking(columns: &Columns<'_, '_>, left: u16, right: u16) -> Result<Lengths, 
 {
     columns.check(left)?;
     columns.check(right)?;
-    Err(JobError::Fault(JobFault::Kind(KindFault::Lacks)))
+    Err(KindFault::Lacks.into())
 }
 
 /// Prints what an operation answers: for lengths their line and numbers, for an operation that is not built 15, and for a
@@ -63,7 +63,7 @@ pub fn operate(
             put_answer(out, n, lacking(columns, column, column))
         }
         Record::Join { left, right } => put_answer(out, n, lacking(columns, left, right)),
-        Record::Length { column } => { put_answer(out, n, columns.measure(column, Unit::Bytes)) }
-        Record::BitLength { column } => { put_answer(out, n, columns.measure(column, Unit::Bits)) }
+        Record::Length { column } => put_answer(out, n, columns.measure(column, Unit::Bytes)),
+        Record::BitLength { column } => put_answer(out, n, columns.measure(column, Unit::Bits)),
     }
 }

@@ -23,7 +23,6 @@ pub struct Job<'a> {
 }
 
 impl<'a> Job<'a> {
-    ghost use Rattle.job.specs.declared.fault.JobFault.TheVariants.{Record as NoRecord};
     ghost use Rattle.job.specs.Faults.{OnFault};
     ghost use Rattle.job.specs.Steps.{state_of, Took, Ends, Made, Stepped};
     ghost use Rattle.job.specs.Taken.{NotListed};
@@ -43,15 +42,15 @@ impl<'a> Job<'a> {
     // Takes a column record. Refuses by 17, with nothing changed, letters that are no format and rows that are not laid out.
     fn take(&mut self, letters: &[u8], part: Part<'a>, out: &mut String) -> Result<(), JobError>
         ensures { MatchResult result (λ _. Took (state_of self.old) (state_of self.new) letters.now part.entry.bytes.now (string_bytes out.old) (string_bytes out.new))
-            (OnFault (λ f. (f ≡ NoRecord) × NotListed letters.now part.entry.bytes.now × (state_of self.new ≡ state_of self.old) × (string_bytes out.new ≡ string_bytes out.old))) }
+            (OnFault (λ f. (f ≡ JobFault.Record) × NotListed letters.now part.entry.bytes.now × (state_of self.new ≡ state_of self.old) × (string_bytes out.new ≡ string_bytes out.old))) }
     {
         let format = read_format(letters).ok_or(JobFault::Record)?;
         let entry = Entry { format, part };
         match entry.check(self.heap) {
             Ok(()) => {}
-            Err(JobError::Memory(e)) => return Err(JobError::Memory(e)),
+            Err(JobError::Memory(e)) => return Err(e.into()),
             Err(JobError::Fault(fault)) => match fault {
-                JobFault::Record => return Err(JobError::Fault(fault)),
+                JobFault::Record => return Err(fault.into()),
                 _ => writeln!(out, "{}", Refusal { fault })?,
             },
         }
@@ -66,7 +65,7 @@ impl<'a> Job<'a> {
             (OnFault (λ f. Ends (state_of self.old) (state_of self.new) f (string_bytes out.old) (string_bytes out.new))) }
     {
         if self.rest.len() > 65_536 {
-            return Err(JobError::Fault(JobFault::File));
+            return Err(JobFault::File.into());
         }
         let (found, after) = next_record(self.rest)?;
         if let Record::Column { format, rows } = found {
@@ -74,7 +73,7 @@ impl<'a> Job<'a> {
         } else {
             let columns = Columns {
                 heap: self.heap,
-                entries: self.columns.as_slice(),
+                entries: &self.columns,
             };
             operate(&columns, self.operations + 1, found, out)?;
             self.operations += 1;

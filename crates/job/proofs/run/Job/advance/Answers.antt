@@ -11,7 +11,7 @@ use Rattle.job.proofs.run.Job.advance.Goals.{in-Column+in_ok-take, in_default+in
 use Rattle.job.proofs.run.Job.advance.Goals as goal
 
 pub returns-then-self-gt65536 : goal.returns-then-self-gt65536
-returns-then-self-gt65536 c = ends_long (state_of c.args.self.now) (string_bytes c.args.out.now) c.if-self-gt65536.true
+returns-then-self-gt65536 c = rw c.into.ensures (ends_long (state_of c.args.self.now) (string_bytes c.args.out.now) c.if-self-gt65536.true)
 
 pub returns-in_err-found : goal.returns-in_err-found
 returns-in_err-found c =
@@ -43,5 +43,5 @@ returns c =
           let h = operate_added _ _ c.in_ok-found.found before (string_bytes w.operate.new.out) w.in_default.not-Column w.in_ok-operate.ensures in
           rw (w.self-is, w.out-is)
           (operated s c.in_ok-found.found c.in_ok-found.after.now before (string_bytes w.operate.new.out) h.0 c.if-self-gt65536.false c.in_ok-found.ensures.reads h.1
-          (subst (λ (es : List Entry). Operation (records_of es) (c.args.self.now.operations + 1) c.in_ok-found.found h.0) w.as_slice.ensures.value h.2))
+          (subst (λ (es : List Entry). Operation (records_of es) (c.args.self.now.operations + 1) c.in_ok-found.found h.0) w.deref.ensures.value h.2))
     ]

@@ -2,8 +2,9 @@
 use Rattle.std.proofs.Common.{[], refl, ◌∷◌, ◌++◌, arith}
 use Rattle.std.proofs.lemmas.Bool.Decides.{nat_tests}
 use Rattle.std.proofs.lemmas.Result.{err_from_is_err_and}
+use Rattle.job.proofs.Gathering.{rows_are}
 use Rattle.job.proofs.Growing.{taken_more, taken_all, taken_never}
-use Rattle.job.proofs.gather.gather.Goals as goal
+use Rattle.job.proofs.gather.Gathered.gather.Goals as goal
 
 pub returns-in_err-row : goal.returns-in_err-row
 returns-in_err-row g c =
@@ -27,3 +28,9 @@ returns g c =
     let rs = c.loop-rest.invariant.0 in
     let k = c.loop-rest.invariant.1 in
     (rs, taken_all g.O.Offset.number c.args.part.bytes.now c.loop-rest.rest.now c.loop-rest.lists rs k (grind (arith, nat_tests)), k.lays)
+
+pub add_row-requires-clause-covered : goal.add_row-requires-clause-covered
+add_row-requires-clause-covered g c =
+    let l = c.loop-rest.invariant.1.lays in
+    let size = c.loop-rest.lists.validity.ok.0 in
+    omega (arith, rows_are g.O.Offset.number c.loop-rest.lists c.loop-rest.invariant.0 l, l.covered)

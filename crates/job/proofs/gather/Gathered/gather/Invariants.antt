@@ -1,7 +1,7 @@
 use Rattle.std.proofs.Common.{List, length}
 use Rattle.records.specs.Layout.{GivenRow}
 use Rattle.job.proofs.Growing.{Taken}
-use Rattle.job.proofs.gather.gather.Given as goal
+use Rattle.job.proofs.gather.Gathered.gather.Given as goal
 
 abbrev pub invariant-loop-rest : goal.invariant-loop-rest
 invariant-loop-rest g l = (rs : List GivenRow) × Taken g.O.Offset.number l.part.bytes.now l.rest l.lists rs
