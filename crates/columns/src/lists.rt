@@ -46,6 +46,7 @@ impl<'a> Lists<'a> {
         requires inside { k ≤ self.now.rows }
         ensures { result ≡ place (at (numbers self.now.offsets) k) }
     {
+        // `as` here and below: std has no `From` between `u64` and `usize`.
         self.offsets.get(k).unwrap() as usize
     }
 

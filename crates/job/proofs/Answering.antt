@@ -36,7 +36,7 @@ answer_met x part (Kind f) n h = h
 
 -- the entry of a record that was taken
 pub taken_by : (e : Entry) (ls before after : List ℕ) (a : Option ℕ) → Lawful e.format × (ls ≡ letters e.format)
-    → (rs : List GivenRow) × Laid e.part.bytes.now rs × ColumnAnswer e.format rs a → after ≡ before ++ answer_line a → Taken ls e.part.bytes.now e before after
+    → (rs : List GivenRow) × Laid e.part.now rs × ColumnAnswer e.format rs a → after ≡ before ++ answer_line a → Taken ls e.part.now e before after
 taken_by e ls before after a l h p = record {
   rows = h.0;
   answer = a;

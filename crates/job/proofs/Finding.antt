@@ -1,5 +1,5 @@
 -- Columns of a job by their numbers.
-use Rattle.std.proofs.Common.{◌≡◌, ℕ, ◌<◌, true, List, length, get_or, Some, Ok, Err, Option, Result, MatchResult, sym, refl, ap, ◌∙◌, subst, arith}
+use Rattle.std.proofs.Common.{◌≡◌, ℕ, ◌<◌, ◌≤◌, true, List, length, get_or, Some, Ok, Err, Option, Result, MatchResult, sym, refl, ap, ◌∙◌, subst, arith}
 use Rattle.std.proofs.lemmas.List.{get_or-map, length-map}
 use Rattle.kernels.specs.declared.length.LengthFault.TheVariants.{Rows}
 use Rattle.kernels.specs.declared.length.Unit as unit
@@ -22,18 +22,21 @@ use Rattle.job.specs.Transcript.{ColumnRecord, AllText, Read, IsNotRead, built}
 at_entry : (es : List Entry) (k : ℕ) (e : Entry) → k < length es → e ≡ get_or es k e → (d : ColumnRecord) → get_or (records_of es) k d ≡ record_of e
 at_entry es k e h q d = get_or-map record_of es k e d h ∙ ap record_of (sym q)
 
-pub has_at : (es : List Entry) (k : ℕ) (e : Entry) (f : OffsetFormat) → k < length es → e ≡ get_or es k e → built e.format ≡ Some f → Has (records_of es) k f e.part.bytes.now
-has_at es k e f h q b = record {
+pub has_at : (es : List Entry) (k : ℕ) (e : Entry) (f : OffsetFormat) → k < length es → e ≡ get_or es k e → built e.format ≡ Some f → length e.part.now ≤ 65536 → Has (records_of es) k f e.part.now
+has_at es k e f h q b s = record {
   taken = record_of e;
   inside = omega (arith, length-map es record_of, h);
   here = at_entry es k e h q;
-  small = e.part.small;
+  small = s;
   format = b;
   part_is = refl;
 }
 
 pub has_only : (es : List Entry) (k : ℕ) (e : Entry) (f : OffsetFormat) (part : List ℕ) → k < length es → e ≡ get_or es k e → Has (records_of es) k f part → built e.format ≡ Some f
 has_only es k e f part l q h = ap (λ (c : ColumnRecord). built c.format) (sym (sym (h.here h.taken) ∙ at_entry es k e l q h.taken)) ∙ h.format
+
+pub has_small : (es : List Entry) (k : ℕ) (e : Entry) (f : OffsetFormat) (part : List ℕ) → k < length es → e ≡ get_or es k e → Has (records_of es) k f part → length e.part.now ≤ 65536
+has_small es k e f part l q h = subst (λ (c : ColumnRecord). length c.part ≤ 65536) (sym (h.here h.taken) ∙ at_entry es k e l q h.taken) h.small
 
 -- a column that is read has a record
 pub has_read : (cs : List ColumnRecord) (k : ℕ) (f : OffsetFormat) (part : List ℕ) (rs : List GivenRow) → Has cs k f part → Laid part rs → (f.text ≡ true → AllText rs) → Read cs k f rs

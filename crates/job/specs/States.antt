@@ -5,7 +5,7 @@ use Rattle.job.specs.declared.entry.Entry.{Entry}
 use Rattle.job.specs.Transcript.{ColumnRecord, built}
 
 abbrev pub record_of : Entry → ColumnRecord
-record_of e = record { format = e.format; part = e.part.bytes.now }
+record_of e = record { format = e.format; part = e.part.now }
 
 abbrev pub records_of : List Entry → List ColumnRecord
 records_of es = map record_of es

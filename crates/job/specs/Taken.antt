@@ -29,7 +29,7 @@ pub record Taken (ls part : List ℕ) (e : Entry) (before after : List ℕ) : Ty
   pub answer : Option ℕ
   pub lawful : Lawful e.format
   pub spelt : ls ≡ letters e.format
-  pub kept : e.part.bytes.now ≡ part
+  pub kept : e.part.now ≡ part
   pub laid : Laid part rows
   pub answered : ColumnAnswer e.format rows answer
   pub printed : after ≡ before ++ answer_line answer

@@ -13,7 +13,8 @@ use kernels::length::Unit;
 use records::format::Format;
 use std::alloc::Global;
 
-/// A format that is built: whether its rows are text, and whether its offsets have 64 bits.
+/// A format that is built: whether its rows are text, and whether its offsets have 64 bits. Two marks and no enum of four:
+/// each is asked alone.
 #[derive(Clone, Copy, PartialEq, Debug)]
 pub struct OffsetFormat {
     pub text: bool,

@@ -23,20 +23,20 @@ use std::alloc::Global;
 #[derive(Clone, Copy)]
 pub struct Entry<'a> {
     pub format: Format,
-    pub part: Part<'a>,
+    pub part: &'a [u8],
 }
 
-impl Entry<'_> {
-    /// Whether the column of the record can be made. Refuses by 17 a part that is not laid out as rows, by 15 a format that is
+impl Part<'_> {
+    /// Whether the column over the rows can be made. Refuses by 17 a part that is not laid out as rows, by 15 a format that is
     /// not built, and by 4 a text column with a row that is no text.
-    pub(crate) fn check(&self, heap: Global) -> Result<(), JobError>
-        ensures { MatchResult result (λ _. (rs : List GivenRow) × Laid self.now.part.bytes.now rs × ColumnAnswer self.now.format rs None)
-            (OnFault (Meets self.now.format self.now.part.bytes.now)) }
+    pub(crate) fn check(self, heap: Global, format: Format) -> Result<(), JobError>
+        ensures { MatchResult result (λ _. (rs : List GivenRow) × Laid self.entry.bytes.now rs × ColumnAnswer format rs None)
+            (OnFault (Meets format self.entry.bytes.now)) }
     {
-        match built(self.format) {
-            Some(known) => known.check(heap, self.part),
+        match built(format) {
+            Some(known) => known.check(heap, self),
             None => {
-                Gathered::<i64>::gather(heap, self.part)?;
+                Gathered::<i64>::gather(heap, self)?;
                 Err(KindFault::Lacks.into())
             }
         }
@@ -58,7 +58,8 @@ impl<'a> Columns<'_, 'a> {
     {
         let entry = self.entries.get(usize::from(column))?;
         let format = built(entry.format)?;
-        Some((format, entry.part))
+        let part = Part::new(entry.part)?;
+        Some((format, part))
     }
 
     /// Whether a column of a job is read. Refuses by 18 where it is not.

@@ -5,7 +5,7 @@ ghost use Rattle.job.specs.Transcript.{Transcript, OneTranscript};
 use crate::entry::{Columns, Entry};
 use crate::fault::{JobError, JobFault};
 use crate::operate::operate;
-use crate::part::Part;
+use crate::part::{MAX_FILE, Part};
 use crate::print::Refusal;
 use records::format::read_format;
 use records::record::{Record, next_record};
@@ -45,8 +45,7 @@ impl<'a> Job<'a> {
             (OnFault (λ f. (f ≡ JobFault.Record) × NotListed letters.now part.entry.bytes.now × (state_of self.new ≡ state_of self.old) × (string_bytes out.new ≡ string_bytes out.old))) }
     {
         let format = read_format(letters).ok_or(JobFault::Record)?;
-        let entry = Entry { format, part };
-        match entry.check(self.heap) {
+        match part.check(self.heap, format) {
             Ok(()) => {}
             Err(JobError::Memory(e)) => return Err(e.into()),
             Err(JobError::Fault(fault)) => match fault {
@@ -54,7 +53,10 @@ impl<'a> Job<'a> {
                 _ => writeln!(out, "{}", Refusal { fault })?,
             },
         }
-        self.columns.push(entry)?;
+        self.columns.push(Entry {
+            format,
+            part: part.bytes,
+        })?;
         Ok(())
     }
 
@@ -64,7 +66,7 @@ impl<'a> Job<'a> {
         ensures { MatchResult result (λ _. Made (state_of self.old) (state_of self.new) (string_bytes out.old) (string_bytes out.new))
             (OnFault (λ f. Ends (state_of self.old) (state_of self.new) f (string_bytes out.old) (string_bytes out.new))) }
     {
-        if self.rest.len() > 65_536 {
+        if self.rest.len() > MAX_FILE {
             return Err(JobFault::File.into());
         }
         let (found, after) = next_record(self.rest)?;

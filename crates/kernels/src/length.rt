@@ -7,7 +7,8 @@ use columns::measure::Measure;
 use encoding::bits;
 use encoding::offset::Offset;
 
-/// What a length counts.
+/// What a length counts. It is data, which records and clauses name: as a closure it would stand in each clause as what it
+/// answers.
 #[derive(Clone, Copy, PartialEq, Debug)]
 pub enum Unit {
     Bytes,

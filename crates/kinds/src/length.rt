@@ -8,7 +8,8 @@ use crate::fault::KindFault;
 use columns::measure::Measure;
 use kernels::length::{LengthFault, Unit, fill};
 
-// Writes lengths into the list of the width that is meant; the other list stays.
+// Writes lengths into the list of the width that is meant; the other list stays. Two lists and no struct of both: its clauses
+// would say `lists.exit.0` and `lists.exit.1.0` for `narrow.new` and `wide.new`.
 fn choose<M: Measure>(
     column: &M,
     unit: Unit,

@@ -80,6 +80,7 @@ pub(crate) trait Number: Copy {
         ensures { MatchResult result (λ p. Reads size (number p.0) b.now p.1.now) (λ _. (x : ℕ) (rest : List ℕ) → Reads size x b.now rest → ⊥) };
 }
 
+// Each width reads by itself: one text over its size needs a law for each, longer than the two lines.
 impl Number for u16 {
     ghost size = { 2 };
 
@@ -222,6 +223,7 @@ pub fn next_record<'a>(file: &'a [u8]) -> Result<(Record<'a>, &'a [u8]), BadReco
 {
     let (size, rest) = u32::read(file)?;
     let (kind, rest) = u16::read(rest)?;
+    // `as`: std has no `From<u32>` for `usize`.
     let body_size = (size as usize).checked_sub(KIND_BYTES).ok_or(BadRecord)?;
     let (body, rest) = rest.split_at_checked(body_size).ok_or(BadRecord)?;
     let kind = RecordKind::try_from(kind)?;

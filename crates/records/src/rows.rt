@@ -24,6 +24,7 @@ pub fn next_row<'a>(b: &'a [u8]) -> Result<(Row<'a>, &'a [u8]), BadRecord>
 {
     let (valid, rest) = read_mark(b)?;
     let (size, rest) = u32::read(rest)?;
+    // `as`: std has no `From<u32>` for `usize`.
     let (bytes, rest) = rest.split_at_checked(size as usize).ok_or(BadRecord)?;
     Ok((Row { valid, bytes }, rest))
 }

@@ -13,7 +13,7 @@ use Rattle.job.proofs.run.Job.take.Goals as goal
 
 pub returns : goal.returns
 returns c =
-    let e : Entry = record { format = c.in_ok-format.format; part = c.args.part } in
+    let e : Entry = record { format = c.in_ok-format.format; part = c.args.part.bytes } in
     let l = MatchOption-at_some _ _ _ (given_some _ _ _ c.in_ok-format.ensures.value) c.read_format.ensures in
     let before = string_bytes c.args.out.now in
     let after = string_bytes c.match-check.out in
@@ -21,7 +21,7 @@ returns c =
       | in-Ok w ↦ taken_by e c.args.letters.now before after None l w.in-Ok.ensures (ap string_bytes w.out-is ∙ sym (append-nil before))
       | in-Err-Fault+in_default+in_ok-writeln-in_default w ↦
           taken_by e c.args.letters.now before after (Some (number w.in-Err-Fault.fault)) l
-          (answer_met e.format e.part.bytes.now w.in-Err-Fault.fault w.in_default.not-Record (rw w.in-Err-Fault.field-0-is at w.in-Err-Fault.ensures)) (ap string_bytes w.out-is ∙ w.in_ok-writeln-in_default.ensures.bytes)
+          (answer_met e.format e.part.now w.in-Err-Fault.fault w.in_default.not-Record (rw w.in-Err-Fault.field-0-is at w.in-Err-Fault.ensures)) (ap string_bytes w.out-is ∙ w.in_ok-writeln-in_default.ensures.bytes)
     ] in
     let q = ap records_of c.in_ok-push.ensures.items ∙ map_push record_of (vec_items c.args.self.now.columns) e in
     (e, h, ap (λ (cs : List ColumnRecord). record { columns = cs; operations = c.args.self.now.operations; rest = c.args.self.now.rest.now }) q)
