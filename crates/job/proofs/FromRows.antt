@@ -109,12 +109,6 @@ over_from number g rs text n o ds m y r few low k p q b z = record {
     sums : (i : ℕ) → m.start + i ≡ i
     sums i = omega (arith, z)
 
--- a part that is not laid out as rows has no column
-pub part_unread : (u : unit.Unit) (text : Bool) (c : ℕ) (part : List ℕ) (e : JobError) → OnFault (λ f. (f ≡ Record) × ((rs : List GivenRow) → Laid part rs → ⊥)) e
-    → PartMeasured u text c part (Err e) × PartChecked text part (Err e)
-part_unread u text c part (Memory m) h = (tt, tt)
-part_unread u text c part (Fault f) h = rw h.0 (h.1, h.1)
-
 -- what is measured of the column is measured of the record's rows
 pub part_from : (u : unit.Unit) (text : Bool) (rs : List GivenRow) (k : ℕ) (part : List ℕ) (c : OffsetColumn) (r : Result Lengths JobError) → Laid part rs → GrantedOver text k rs c
     → MeasuredAs u (lists_of c) r → PartMeasured u text k part r

@@ -1,14 +1,10 @@
-use Rattle.std.proofs.Common.{get_or, ◌≡◌, ℕ, ◌+◌, map, Ok, sym, ap, ◌∙◌, subst, arith}
-use Rattle.std.proofs.lemmas.List.{length-map, set-get_or}
+use Rattle.std.proofs.Common.{get_or, ◌≡◌, ℕ, ◌+◌, map, sym, ap, ◌∙◌, arith}
+use Rattle.std.proofs.lemmas.List.{length-map}
 use Rattle.encoding.specs.Offsets.{wrapped}
-use Rattle.kernels.specs.Lengths.{in_unit, Fills}
-use Rattle.kernels.proofs.Filling.{one_more, over_more, over_same, filled_all, filled_none}
+use Rattle.kernels.specs.Lengths.{in_unit}
+use Rattle.kernels.proofs.Filling.{one_more, over_more, over_same}
 use Rattle.kernels.proofs.length.fill.Goals.{then-exact-ceiling, else-exact-ceiling}
 use Rattle.kernels.proofs.length.fill.Goals as goal
-
-pub returns-then-len-out : goal.returns-then-len-out
-returns-then-len-out g c =
-    filled_none c.args.unit g.O.Offset.number g.O.Offset.ceiling (g.M.Measure.lengths c.args.column.now) c.args.out.now (omega (arith, c.len.ensures, c.if-len-out.true))
 
 pub loop-i-preserved : goal.loop-i-preserved
 loop-i-preserved g c =
@@ -34,16 +30,3 @@ loop-i-preserved g c =
       ];
       within = omega (arith, m.0);
     }
-
-pub returns-in_default : goal.returns-in_default
-returns-in_default g c =
-    let ls = g.M.Measure.lengths c.args.column.now in
-    subst (λ new. Fills c.args.unit g.O.Offset.number g.O.Offset.ceiling ls c.args.out.now new (Ok c.loop-i.over)) (sym (set-get_or c.loop-i.out c.loop-i.i _))
-    (filled_all c.args.unit g.O.Offset.number g.O.Offset.ceiling ls c.args.out.now c.loop-i.out c.loop-i.i c.loop-i.over
-    (omega (arith, c.if-len-out.false, c.len.ensures)) c.in_default.ensures c.loop-i.invariant)
-
-pub returns-after-loop-i : goal.returns-after-loop-i
-returns-after-loop-i g c =
-    let ls = g.M.Measure.lengths c.args.column.now in
-    filled_all c.args.unit g.O.Offset.number g.O.Offset.ceiling ls c.args.out.now c.loop-i.out c.loop-i.i c.loop-i.over
-    (omega (arith, c.if-len-out.false, c.len.ensures)) (omega (arith, c.loop-i-test.false, c.if-len-out.false, c.len.ensures)) c.loop-i.invariant

@@ -1,5 +1,5 @@
 use Rattle.std.proofs.Common.{rules, arith}
-use Rattle.columns.specs.Meanings.{places}
+use Rattle.columns.proofs.Lengths.{places}
 use Rattle.columns.proofs.lists.Lists.part.Goals as goal
 
 pub slice_bounds-result-count : goal.slice_bounds-result-count

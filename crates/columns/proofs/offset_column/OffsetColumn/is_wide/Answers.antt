@@ -1,5 +1,5 @@
 use Rattle.std.proofs.Common.{◌<◌, arith}
-use Rattle.columns.specs.Meanings.{count_lengths, length_in, length_row}
+use Rattle.columns.proofs.Lengths.{count_lengths, length_in, length_row}
 use Rattle.columns.proofs.offset_column.OffsetColumn.is_wide.Goals as goal
 
 pub returns-clause-low : goal.returns-clause-low

@@ -1,5 +1,5 @@
 use Rattle.std.proofs.Common.{sym}
-use Rattle.columns.specs.Meanings.{count_lengths}
+use Rattle.columns.proofs.Lengths.{count_lengths}
 use Rattle.columns.proofs.offset_column.reads.OffsetColumnMeasure.len.Goals as goal
 
 pub returns : goal.returns

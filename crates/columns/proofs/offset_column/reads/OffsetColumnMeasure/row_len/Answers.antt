@@ -1,5 +1,5 @@
 use Rattle.std.proofs.Common.{length, sym, ap, ◌∙◌, arith}
-use Rattle.columns.specs.Meanings.{count_lengths, length_in}
+use Rattle.columns.proofs.Lengths.{count_lengths, length_in}
 use Rattle.columns.proofs.offset_column.reads.OffsetColumnMeasure.row_len.Goals as goal
 
 pub returns-then-i-self : goal.returns-then-i-self
