@@ -1,2 +1,3 @@
 pub mod Errors
 pub mod Lengths
+pub mod Making

@@ -1,4 +1,4 @@
--- What holds of the meaning of lists that keep the rules, as the law of every source asks it.
+-- What holds of the meaning of lists that keep the rules: proofs, which stand here since the law of a source may cite specs/ alone.
 use Rattle.std.proofs.Common.{◌≡◌, ℕ, ◌+◌, ◌-◌, ◌<◌, ◌≤◌, List, length, get_or, drop, ℤ, pos, negsuc, ◌≤ℤ◌, sym, refl, ◌∙◌, subst, arith}
 use Rattle.std.specs.List.{between}
 use Rattle.std.proofs.lemmas.List.FromFn.{length-map-range_with_len, get_or-map-range_with_len}

@@ -8,7 +8,7 @@ use Rattle.columns.specs.Lists.{Shaped, Ordered, TextsTo, meaning_of, lengths_of
 
 -- the lists that a column stands over
 abbrev pub lists_of : OffsetColumn → Lists
-lists_of c = c.lists
+lists_of c = c.sound.lists
 
 -- no ground holds, and c is the column over the lists l: it means their rows, and these rows' lengths
 pub record Granted (l : Lists) (c : OffsetColumn) : Type 0 where

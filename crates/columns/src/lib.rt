@@ -7,4 +7,5 @@ pub mod measure;
 pub mod offset_column;
 pub mod row;
 pub mod rows;
+mod sound;
 pub mod source;

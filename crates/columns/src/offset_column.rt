@@ -1,18 +1,17 @@
 // Columns by offsets, of either width, text or binary.
-ghost use Rattle.columns.specs.Lists.{Shaped, Ordered, TextsTested};
+ghost use Rattle.columns.specs.Lists.{TextsTested};
 
 use crate::fault::ColumnFault;
 use crate::lists::Lists;
+use crate::sound::SoundLists;
 
 pub mod reads;
 
 /// A column over lent lists that keep the rules.
 #[derive(Clone, Copy)]
 pub struct OffsetColumn<'a> {
-    lists: Lists<'a>,
-    ghost shaped: { Shaped lists },
-    ghost ordered: { Ordered lists },
-    ghost texts: { TextsTested lists },
+    sound: SoundLists<'a>,
+    ghost texts: { TextsTested sound.lists },
 }
 
 impl<'a> OffsetColumn<'a> {
@@ -24,13 +23,10 @@ impl<'a> OffsetColumn<'a> {
     pub fn new(lists: Lists<'a>) -> Result<OffsetColumn<'a>, ColumnFault>
         ensures { Made lists.entry result }
     {
-        if !lists.is_shaped() {
-            return Err(ColumnFault::Shape);
+        let sound = SoundLists::new(lists)?;
+        if sound.lists.text {
+            sound.check_texts()?;
         }
-        lists.offsets.check(lists.data.len() as u64)?;
-        if lists.text {
-            lists.check_texts()?;
-        }
-        Ok(OffsetColumn { lists })
+        Ok(OffsetColumn { sound })
     }
 }

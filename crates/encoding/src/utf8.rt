@@ -67,6 +67,7 @@ pub fn first_char(s: &[u8]) -> Option<(usize, &[u8])>
 
 /// Whether the bytes are text; else where the first unreadable character begins.
 /// Example: 61 ED A0 80 is refused at place 1.
+// Not by std's `from_utf8`: the grammar stands here, and the vectors set this reader beside that one.
 pub fn check(s: &[u8]) -> Result<(), TextFault>
     ensures answer { MatchResult result (λ _. Text s.now) (λ f. Unreadable s.now f.place × (Text s.now → ⊥)) }
     ensures law { Rfc3629 }

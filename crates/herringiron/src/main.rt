@@ -39,9 +39,7 @@ fn run_job(rt: &HostRuntime, file: &[u8]) -> anyhow::Result<()> {
 
 fn start(rt: &HostRuntime) -> anyhow::Result<()> {
     let heap = rt.alloc();
-    let mut words = env::args(rt)?;
-    let _ = words.next();
-    let Some(path) = words.next() else {
+    let Some(path) = env::args(rt)?.nth(1) else {
         let file = read_some(heap, rt.stdin())?;
         return run_job(rt, file.as_slice());
     };

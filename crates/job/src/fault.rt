@@ -1,13 +1,10 @@
 // Why a job's operation, column or file is refused, and why a job cannot go on.
 ghost use Rattle.std.specs.Prelude.{◌≡◌, alloc_error};
-ghost use Rattle.columns.specs.Faults.{number as column_fault_number};
-ghost use Rattle.kinds.specs.Faults.{number as kind_fault_number};
 ghost use Rattle.job.specs.Faults.{number as fault_number, unread_of};
 ghost use Rattle.job.specs.declared.fault.JobError.TheVariants.{Memory, Fault};
 ghost use Rattle.job.specs.declared.fault.JobFault.TheVariants.{Record, Column, Kind};
 
 use columns::fault::ColumnFault;
-use kernels::length::LengthFault;
 use kinds::fault::KindFault;
 use records::record::BadRecord;
 use std::alloc::{AllocError, AllocFailed};
@@ -82,26 +79,6 @@ impl From<KindFault> for JobError {
     }
 }
 
-fn column_number(fault: ColumnFault) -> u64
-    ensures { result ≡ column_fault_number fault }
-{
-    match fault {
-        ColumnFault::Shape => 1,
-        ColumnFault::Offset { .. } => 2,
-        ColumnFault::View { .. } => 3,
-        ColumnFault::Text { .. } => 4,
-    }
-}
-
-fn kind_number(fault: KindFault) -> u64
-    ensures { result ≡ kind_fault_number fault }
-{
-    match fault {
-        KindFault::Lacks => 15,
-        KindFault::Length(LengthFault::Rows) => 12,
-    }
-}
-
 impl JobFault {
     /// The number that is printed for the fault.
     pub fn number(self) -> u64
@@ -111,8 +88,8 @@ impl JobFault {
             JobFault::Record => 17,
             JobFault::NotRead => 18,
             JobFault::File => 19,
-            JobFault::Column(fault) => column_number(fault),
-            JobFault::Kind(fault) => kind_number(fault),
+            JobFault::Column(fault) => fault.number(),
+            JobFault::Kind(fault) => fault.number(),
         }
     }
 }

@@ -31,7 +31,7 @@ answered u c ls places = cond (nat_lt places (length ls)) (Err Rows) (Ok (over_i
 abbrev pub filled : Unit → ℕ → List ℕ → List ℤ → List ℤ
 filled u c ls out = cond (nat_lt (length out) (length ls)) out (numbers_in u c ls ++ drop (length ls) out)
 
--- the list `old`, seen by its numbers in the width up to c, becomes `new` and r is answered; a list too short stays whatever it holds
+-- the list `old`, seen by its numbers in the width up to c, becomes `new` and r is answered; a list that is too short stays as it is
 pub record Fills {X : Type 0} (u : Unit) (number : X → ℤ) (c : ℕ) (ls : List ℕ) (old new : List X) (r : Result ℕ LengthFault) : Type 0 where
   pub answer : r ≡ answered u c ls (length old)
   pub after : map number new ≡ filled u c ls (map number old)

@@ -1,25 +1,35 @@
 // Lengths of rows, in bytes (or elements) and in bits.
 ghost use Rattle.std.specs.Prelude.{◌≡◌};
 ghost use Rattle.kernels.specs.Examples.{ExamplesHold};
-ghost use Rattle.kernels.specs.Lengths.{in_unit, Fills};
+ghost use Rattle.kernels.specs.Lengths.{number as fault_number, in_unit, Fills};
 
 use columns::measure::Measure;
 use encoding::bits;
 use encoding::offset::Offset;
 
-/// What a length counts. It is data, which records and clauses name: as a closure it would stand in each clause as what it
-/// answers.
+/// What a length counts. It is data, which clauses name: as a closure it would stand in each clause by what it answers.
 #[derive(Clone, Copy, PartialEq, Debug)]
 pub enum Unit {
     Bytes,
     Bits,
 }
 
-/// Why lengths are not written. Its number stands in specs/Lengths.antt.
+/// Why lengths are not written.
 #[derive(Clone, Copy, PartialEq, Debug)]
 pub enum LengthFault {
     /// There are more rows than the list has places.
     Rows,
+}
+
+impl LengthFault {
+    /// The number of the refusal.
+    pub fn number(self) -> u64
+        ensures { result ≡ fault_number self }
+    {
+        match self {
+            LengthFault::Rows => 12,
+        }
+    }
 }
 
 impl Unit {
@@ -47,6 +57,7 @@ pub fn fill<M: Measure, O: Offset>(
     }
     let ceiling = u128::from(O::max_value());
     let mut over = 0;
+    // No `zip` with the lengths: of a list that is written through it, a proof knows the length alone.
     for (i, place) in out.iter_mut().enumerate() {
         let Some(bytes) = column.row_len(i) else {
             break;

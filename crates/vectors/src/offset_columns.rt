@@ -81,6 +81,7 @@ impl fmt::Display for Refusal {
 fn shown(heap: Global, column: &OffsetColumn<'_>) -> anyhow::Result<String> {
     let word = if column.is_text() { "text" } else { "binary" };
     let mut out = String::from_str(heap, word)?;
+    // Counted here: `count()` of the rows asks for a proof that the number fits.
     let mut count = 0usize;
     for row in Rows::new(column) {
         let row = Written(row);

@@ -25,30 +25,30 @@ impl OffsetColumn<'_> {
         ensures low { (i : ℕ) → i < length (lengths_of (lists_of self.now))
             → slice_index (lengths_of (lists_of self.now)) i ≤ ceiling_of (lists_of self.now).offsets }
     {
-        self.lists.offsets.is_wide()
+        self.sound.lists.offsets.is_wide()
     }
 }
 
 impl<'a> Source for OffsetColumn<'a> {
     ghost meaning = { λ c. meaning_of (lists_of c) };
 
-    ghost good = { λ c. good c.lists c.shaped c.ordered c.texts };
+    ghost good = { λ c. good c.sound.lists c.sound.shaped c.sound.ordered c.texts };
 
     fn is_text(&self) -> bool {
-        self.lists.text
+        self.sound.lists.text
     }
 
     fn count(&self) -> usize {
-        self.lists.rows
+        self.sound.lists.rows
     }
 
     fn row(&self, i: usize) -> Option<Row<'_>> {
-        if i >= self.lists.rows {
+        if i >= self.sound.lists.rows {
             return None;
         }
-        let (base, bytes) = self.lists.part(i);
+        let (base, bytes) = self.sound.part(i);
         Some(Row {
-            valid: valid(self.lists.validity, i),
+            valid: valid(self.sound.lists.validity, i),
             bytes,
             base: base as u64,
         })
@@ -59,14 +59,14 @@ impl<'a> Measure for OffsetColumn<'a> {
     ghost lengths = { λ c. lengths_of (lists_of c) };
 
     fn len(&self) -> usize {
-        self.lists.rows
+        self.sound.lists.rows
     }
 
     fn row_len(&self, i: usize) -> Option<u64> {
-        if i >= self.lists.rows {
+        if i >= self.sound.lists.rows {
             return None;
         }
-        let (_, bytes) = self.lists.part(i);
+        let (_, bytes) = self.sound.part(i);
         Some(bytes.len() as u64)
     }
 }

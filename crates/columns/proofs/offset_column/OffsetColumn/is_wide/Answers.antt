@@ -4,6 +4,6 @@ use Rattle.columns.proofs.offset_column.OffsetColumn.is_wide.Goals as goal
 
 pub returns-clause-low : goal.returns-clause-low
 returns-clause-low c i h =
-    let s = c.args.self.now in
+    let s = c.args.self.now.sound in
     let k : i < s.lists.rows = omega (arith, count_lengths s.lists, h) in
     omega (arith, length_in s.lists i k, length_row s.lists i s.shaped s.ordered k)

@@ -2,7 +2,7 @@ use Rattle.std.proofs.Common.{subst, below_more}
 use Rattle.std.proofs.lemmas.Result.{MatchResult-at_ok}
 use Rattle.encoding.specs.Utf8.{Text}
 use Rattle.columns.proofs.Errors.{ok_before}
-use Rattle.columns.proofs.lists.Lists.check_texts.Goals as goal
+use Rattle.columns.proofs.sound.SoundLists.check_texts.Goals as goal
 
 pub loop-row-preserved : goal.loop-row-preserved
 loop-row-preserved c =
