@@ -6,7 +6,7 @@ use Rattle.encoding.proofs.Widths.{wrapped_fits}
 use Rattle.kernels.specs.declared.length.LengthFault.TheVariants.{Rows}
 use Rattle.kernels.specs.declared.length.Unit.TheVariants.{Bytes}
 use Rattle.kinds.specs.declared.fault.KindFault.TheVariants.{Length}
-use Rattle.kinds.specs.Lengths.{Measured, ceiling, room, Low, true_lengths, in_width, over_of, laid, narrow_after, wide_after, answer, length_answer}
+use Rattle.kinds.specs.Lengths.{Measured, ceiling, room, Low, true_lengths, in_width, over_of, laid, narrow_after, wide_after, answer}
 
 map_low : (c : ℕ) (ls : List ℕ) → ((i : ℕ) → i < length ls → get_or ls i 0 ≤ c) → map (λ n. wrapped c n) ls ≡ map pos ls
 map_low c [] h = refl
@@ -23,7 +23,7 @@ pub wide_true : (o : Option Measured) (out : List ℤ) → Low o → wide_after 
 wide_true None out h = refl
 wide_true (Some m) out h = ap (λ (xs : List ℤ). cond m.wide (laid xs out) out) (map_low (ceiling m.wide) m.lengths h)
 
-pub answer_granted : (o : Option Measured) (ns ws : List ℤ) (n : ℕ) → Ok n ≡ answer (over_of Bytes) o ns ws → Ok tt ≡ length_answer o ns ws
+pub answer_granted : (o : Option Measured) (ns ws : List ℤ) (n : ℕ) → Ok n ≡ answer (over_of Bytes) o ns ws → Ok tt ≡ answer (λ _. tt) o ns ws
 answer_granted None ns ws n h = absurd (let w : ◌≡◌ {A = ℕ} 0 1 = cc in omega arith)
 answer_granted (Some m) ns ws n h =
     let t = ltb (room m.wide ns ws) (length m.lengths) in

@@ -1,5 +1,5 @@
 -- Lengths by kind: which list they go to, what is written there, and what is answered.
-use Rattle.std.specs.Prelude.{ℕ, ◌<◌, ◌≤◌, Bool, cond, List, ◌++◌, map, length, drop, ℤ, pos, Some, None, Ok, Err, Option, Result, nat_lt, slice_index}
+use Rattle.std.specs.Prelude.{◌≡◌, ℕ, ◌<◌, ◌≤◌, Bool, cond, List, ◌++◌, map, length, drop, ℤ, pos, Some, None, Ok, Err, Option, Result, nat_lt, slice_index}
 use Rattle.encoding.specs.Offsets.{wide_of}
 use Rattle.columns.specs.OffsetColumn.{lists_of}
 use Rattle.columns.specs.Lists.{lengths_of}
@@ -63,5 +63,8 @@ abbrev pub answer : {X : Type 0} → (Measured → X) → Option Measured → Li
 answer counted None ns ws = Err Lacks
 answer counted (Some m) ns ws = cond (nat_lt (room m.wide ns ws) (length m.lengths)) (Err (Length Rows)) (Ok (counted m))
 
-abbrev pub length_answer : Option Measured → List ℤ → List ℤ → Result (Unit {0}) KindFault
-length_answer m ns ws = answer (λ _. tt) m ns ws
+-- a call by kind, from the two lists before it to the two lists after it and its answer r
+pub record Writes {X : Type 0} (numbers : Measured → List ℤ) (counted : Measured → X) (m : Option Measured) (ns ws ns' ws' : List ℤ) (r : Result X KindFault) : Type 0 where
+  pub answered : r ≡ answer counted m ns ws
+  pub narrow : ns' ≡ narrow_after numbers m ns
+  pub wide : ws' ≡ wide_after numbers m ws

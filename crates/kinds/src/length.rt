@@ -1,7 +1,7 @@
 // Lengths by kind.
 ghost use Rattle.std.specs.Prelude.{◌≡◌, ℕ, cond, length as size};
 ghost use Rattle.kernels.specs.Lengths.{answered, filled};
-ghost use Rattle.kinds.specs.Lengths.{measured, ceiling, room, Low, true_lengths, in_width, over_of, answer, length_answer, narrow_after, wide_after};
+ghost use Rattle.kinds.specs.Lengths.{measured, ceiling, room, Low, true_lengths, in_width, over_of, Writes};
 
 use crate::column::Column;
 use crate::fault::KindFault;
@@ -38,9 +38,7 @@ pub fn measure(
     narrow: &mut [i32],
     wide: &mut [i64],
 ) -> Result<usize, KindFault>
-    ensures answer { result ≡ answer (over_of unit) (measured column.now) narrow.old wide.old }
-    ensures narrow { narrow.new ≡ narrow_after (in_width unit) (measured column.now) narrow.old }
-    ensures wide { wide.new ≡ wide_after (in_width unit) (measured column.now) wide.old }
+    ensures writes { Writes (in_width unit) (over_of unit) (measured column.now) narrow.old wide.old narrow.new wide.new result }
     ensures low { Low (measured column.now) }
 {
     match column {
@@ -51,9 +49,7 @@ pub fn measure(
 
 /// Writes the length of every row, as `measure` does in bytes. Example: Utf8 rows "Tür" and "ab" give 4 and 2.
 pub fn length(column: &Column<'_>, narrow: &mut [i32], wide: &mut [i64]) -> Result<(), KindFault>
-    ensures answer { result ≡ length_answer (measured column.now) narrow.old wide.old }
-    ensures narrow { narrow.new ≡ narrow_after true_lengths (measured column.now) narrow.old }
-    ensures wide { wide.new ≡ wide_after true_lengths (measured column.now) wide.old }
+    ensures { Writes true_lengths (λ _. tt) (measured column.now) narrow.old wide.old narrow.new wide.new result }
 {
     measure(column, Unit::Bytes, narrow, wide)?;
     Ok(())
@@ -66,9 +62,7 @@ pub fn bit_length(
     narrow: &mut [i32],
     wide: &mut [i64],
 ) -> Result<usize, KindFault>
-    ensures answer { result ≡ answer (over_of Unit.Bits) (measured column.now) narrow.old wide.old }
-    ensures narrow { narrow.new ≡ narrow_after (in_width Unit.Bits) (measured column.now) narrow.old }
-    ensures wide { wide.new ≡ wide_after (in_width Unit.Bits) (measured column.now) wide.old }
+    ensures { Writes (in_width Unit.Bits) (over_of Unit.Bits) (measured column.now) narrow.old wide.old narrow.new wide.new result }
 {
     measure(column, Unit::Bits, narrow, wide)
 }

@@ -8,7 +8,7 @@ returns c =
     let m = measured c.args.column.now in
     let h = c.in_ok-measure.ensures in
     record {
-      answer = answer_granted m c.args.narrow.now c.args.wide.now _ h.answer;
-      narrow = h.narrow ∙ narrow_true m c.args.narrow.now h.low;
-      wide = h.wide ∙ wide_true m c.args.wide.now h.low;
+      answered = answer_granted m c.args.narrow.now c.args.wide.now _ h.writes.answered;
+      narrow = h.writes.narrow ∙ narrow_true m c.args.narrow.now h.low;
+      wide = h.writes.wide ∙ wide_true m c.args.wide.now h.low;
     }
