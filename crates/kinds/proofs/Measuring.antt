@@ -23,7 +23,7 @@ pub wide_true : (o : Option Measured) (out : List ℤ) → Low o → wide_after 
 wide_true None out h = refl
 wide_true (Some m) out h = ap (λ (xs : List ℤ). cond m.wide (laid xs out) out) (map_low (ceiling m.wide) m.lengths h)
 
-pub answer_granted : (o : Option Measured) (ns ws : List ℤ) (n : ℕ) → Ok n ≡ answer (over_of Bytes) o ns ws → Ok tt ≡ answer (λ _. tt) o ns ws
+pub answer_granted : (o : Option Measured) (ns ws : List ℤ) (n : ℕ) → Ok n ≡ answer (over_of Bytes) o ns ws → Ok tt ≡ answer {X = Unit {0}} (λ _. tt) o ns ws
 answer_granted None ns ws n h = absurd (let w : ◌≡◌ {A = ℕ} 0 1 = cc in omega arith)
 answer_granted (Some m) ns ws n h =
     let t = ltb (room m.wide ns ws) (length m.lengths) in
