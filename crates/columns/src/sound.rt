@@ -33,7 +33,7 @@ impl<'a> SoundLists<'a> {
         requires { k ≤ self.now.lists.rows }
         ensures { result ≡ place (at (numbers self.now.lists.offsets) k) }
     {
-        // `as` here and elsewhere: std has no `From` between `u64` and `usize`.
+        // `as` here and in reads.rt: std has no `From` between `u64` and `usize`.
         self.lists.offsets.get(k).unwrap() as usize
     }
 

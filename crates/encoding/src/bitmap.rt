@@ -31,6 +31,7 @@ impl Bitmap<'_> {
     pub fn covers(&self, rows: usize) -> bool
         ensures { Decides result (self.now.start + rows ≤ 8 * length self.now.bytes.now) }
     {
+        // `as`: std has no `From<usize>` for `u128`.
         let end = self.start as u128 + rows as u128;
         end <= 8 * self.bytes.len() as u128
     }

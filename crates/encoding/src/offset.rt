@@ -39,7 +39,8 @@ pub trait Offset: Copy {
     ghost same: { (a b : Self) → number a ≡ number b → a ≡ b };
 }
 
-// Each width converts by itself: one text over `TryFrom` needs a law longer than both lines, and no law bounds `to_u64` by the width.
+// Each width converts by itself: one text over `TryFrom` needs a law longer than both lines, and no law bounds `to_u64` by the
+// width. The other lines name what is a width's own: its greatest number, its list, its count of numbers.
 impl Offset for i32 {
     ghost number = { λ z. z };
 
@@ -52,7 +53,7 @@ impl Offset for i32 {
     ghost same = { λ a b same. same };
 
     fn max_value() -> u64 {
-        i32::MAX as u64
+        u64::from(i32::MAX.cast_unsigned())
     }
 
     fn from_u64(n: u64) -> Option<i32> {
@@ -84,7 +85,7 @@ impl Offset for i64 {
     ghost same = { λ a b same. same };
 
     fn max_value() -> u64 {
-        i64::MAX as u64
+        i64::MAX.cast_unsigned()
     }
 
     fn from_u64(n: u64) -> Option<i64> {

@@ -40,6 +40,7 @@ pub fn read<O: Offset>(offsets: &[O], i: usize) -> Option<u64>
     offsets.get(i)?.to_u64()
 }
 
+// One branch for each question: a value can choose a width, a type, by a branch alone.
 impl Offsets<'_> {
     /// How many offsets there are.
     pub fn len(&self) -> usize
