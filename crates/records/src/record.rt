@@ -174,38 +174,38 @@ fn read_join(body: &[u8]) -> Result<(u16, u16), BadRecord>
 fn read_body<'a>(kind: RecordKind, body: &'a [u8]) -> Result<Record<'a>, BadRecord>
     ensures { MatchResult result (λ x. (kind_of x ≡ kind) × Fields x body.now) (λ _. (x : Record) → kind_of x ≡ kind → Fields x body.now → ⊥) }
 {
-    Ok(match kind {
+    match kind {
         RecordKind::Column => {
             let (format, rows) = read_column(body)?;
-            Record::Column { format, rows }
+            Ok(Record::Column { format, rows })
         }
         RecordKind::Cut => {
             let (column, start, length) = read_cut(body)?;
-            Record::Cut {
+            Ok(Record::Cut {
                 column,
                 start,
                 length,
-            }
+            })
         }
         RecordKind::CutByCharacter => {
             let (column, start, length) = read_cut(body)?;
-            Record::CutByCharacter {
+            Ok(Record::CutByCharacter {
                 column,
                 start,
                 length,
-            }
+            })
         }
         RecordKind::Join => {
             let (left, right) = read_join(body)?;
-            Record::Join { left, right }
+            Ok(Record::Join { left, right })
         }
-        RecordKind::Length => Record::Length {
+        RecordKind::Length => Ok(Record::Length {
             column: last(body)?,
-        },
-        RecordKind::BitLength => Record::BitLength {
+        }),
+        RecordKind::BitLength => Ok(Record::BitLength {
             column: last(body)?,
-        },
-    })
+        }),
+    }
 }
 
 /// The record at the front of a job file, and what follows it.
