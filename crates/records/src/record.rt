@@ -2,7 +2,7 @@
 
 ghost use Rattle.std.specs.Prelude.{◌≡◌, ℕ, ◌<◌, Bool, List, [], ◌∷◌, length, ℤ, IfOk, Option, MatchResult, ◌≢◌};
 ghost use Rattle.records.specs.Kinds.{Decodes, kind_of};
-ghost use Rattle.records.specs.Layout.{ColumnBody, CutBody, Fields, JoinBody, LengthPart, Reads, Stands, mark_of};
+ghost use Rattle.records.specs.Layout.{ColumnBody, CutBody, Fields, JoinBody, LengthPart, Reads, Stands, le, mark_of};
 
 /// A record of a job file. Its parts are borrowed from the file.
 #[derive(Clone, Copy, Debug)]
@@ -69,54 +69,51 @@ impl TryFrom<u16> for RecordKind {
 // The bytes of a kind, which the size of a record counts too.
 const KIND_BYTES: usize = 2;
 
-// A number as a file gives it: a fixed count of bytes, the lowest first.
-pub(crate) trait Number: Copy {
-    ghost size: { ℕ };
-
+// A number as a file gives it: N bytes, the lowest first.
+pub(crate) trait Number<const N: usize>: Copy {
     ghost number: { Self → ℕ };
 
+    fn from_bytes(bytes: &[u8; N]) -> Self
+        ensures { number result ≡ le bytes.now };
+
     // The number at the front, and what follows it.
-    fn read(b: &[u8]) -> Result<(Self, &[u8]), BadRecord>
-        ensures { MatchResult result (λ p. Reads size (number p.0) b.now p.1.now) (λ _. (x : ℕ) (rest : List ℕ) → Reads size x b.now rest → ⊥) };
-}
-
-// Each width reads by itself: one text over its size needs a law for each, longer than the two lines.
-impl Number for u16 {
-    ghost size = { 2 };
-
-    ghost number = { λ x. x };
-
-    fn read(b: &[u8]) -> Result<(u16, &[u8]), BadRecord> {
-        let (bytes, rest) = b.split_first_chunk().ok_or(BadRecord)?;
-        Ok((u16::from_le_bytes(*bytes), rest))
+    final fn read(b: &[u8]) -> Result<(Self, &[u8]), BadRecord>
+        ensures { MatchResult result (λ p. Reads N (number p.0) b.now p.1.now) (λ _. (x : ℕ) (rest : List ℕ) → Reads N x b.now rest → ⊥) }
+    {
+        // No `split_first_chunk`: it asks that N bytes fit in memory, which holds where they stand.
+        let (bytes, rest) = b.split_at_checked(N).ok_or(BadRecord)?;
+        let bytes = bytes.try_into().map_err(|_| BadRecord)?;
+        Ok((Self::from_bytes(bytes), rest))
     }
 }
 
-impl Number for u32 {
-    ghost size = { 4 };
-
+impl Number<2> for u16 {
     ghost number = { λ x. x };
 
-    fn read(b: &[u8]) -> Result<(u32, &[u8]), BadRecord> {
-        let (bytes, rest) = b.split_first_chunk().ok_or(BadRecord)?;
-        Ok((u32::from_le_bytes(*bytes), rest))
+    fn from_bytes(bytes: &[u8; 2]) -> u16 {
+        u16::from_le_bytes(*bytes)
     }
 }
 
-impl Number for u64 {
-    ghost size = { 8 };
-
+impl Number<4> for u32 {
     ghost number = { λ x. x };
 
-    fn read(b: &[u8]) -> Result<(u64, &[u8]), BadRecord> {
-        let (bytes, rest) = b.split_first_chunk().ok_or(BadRecord)?;
-        Ok((u64::from_le_bytes(*bytes), rest))
+    fn from_bytes(bytes: &[u8; 4]) -> u32 {
+        u32::from_le_bytes(*bytes)
+    }
+}
+
+impl Number<8> for u64 {
+    ghost number = { λ x. x };
+
+    fn from_bytes(bytes: &[u8; 8]) -> u64 {
+        u64::from_le_bytes(*bytes)
     }
 }
 
 // The number that the bytes give, with nothing after it.
-fn last<T: Number>(b: &[u8]) -> Result<T, BadRecord>
-    ensures { MatchResult result (λ x. Reads T.size (T.number x) b.now []) (λ _. (x : ℕ) → Reads T.size x b.now [] → ⊥) }
+fn last<T: Number<N>, const N: usize>(b: &[u8]) -> Result<T, BadRecord>
+    ensures { MatchResult result (λ x. Reads N (T.number x) b.now []) (λ _. (x : ℕ) → Reads N x b.now [] → ⊥) }
 {
     match T::read(b)? {
         (x, []) => Ok(x),
@@ -177,38 +174,38 @@ fn read_join(body: &[u8]) -> Result<(u16, u16), BadRecord>
 fn read_body<'a>(kind: RecordKind, body: &'a [u8]) -> Result<Record<'a>, BadRecord>
     ensures { MatchResult result (λ x. (kind_of x ≡ kind) × Fields x body.now) (λ _. (x : Record) → kind_of x ≡ kind → Fields x body.now → ⊥) }
 {
-    Ok(match kind {
+    match kind {
         RecordKind::Column => {
             let (format, rows) = read_column(body)?;
-            Record::Column { format, rows }
+            Ok(Record::Column { format, rows })
         }
         RecordKind::Cut => {
             let (column, start, length) = read_cut(body)?;
-            Record::Cut {
+            Ok(Record::Cut {
                 column,
                 start,
                 length,
-            }
+            })
         }
         RecordKind::CutByCharacter => {
             let (column, start, length) = read_cut(body)?;
-            Record::CutByCharacter {
+            Ok(Record::CutByCharacter {
                 column,
                 start,
                 length,
-            }
+            })
         }
         RecordKind::Join => {
             let (left, right) = read_join(body)?;
-            Record::Join { left, right }
+            Ok(Record::Join { left, right })
         }
-        RecordKind::Length => Record::Length {
+        RecordKind::Length => Ok(Record::Length {
             column: last(body)?,
-        },
-        RecordKind::BitLength => Record::BitLength {
+        }),
+        RecordKind::BitLength => Ok(Record::BitLength {
             column: last(body)?,
-        },
-    })
+        }),
+    }
 }
 
 /// The record at the front of a job file, and what follows it.
