@@ -29,8 +29,7 @@ use Rattle.job.specs.declared.fault.JobFault.TheVariants.{Record, NotRead, File,
 use Rattle.job.specs.declared.gather.Gathered.{Gathered}
 use Rattle.job.specs.declared.lengths.Lengths.{Lengths}
 use Rattle.job.specs.Gathered.{starts_of, given_of_row, Lays}
-use Rattle.job.specs.Faults.{OnFault}
-use Rattle.job.specs.Measured.{null_rows, Shows, Tells, MeasuredAs, PartChecked, PartMeasured}
+use Rattle.job.specs.Measured.{null_rows, Shows, Tells, MeasuredAs, PartMeasured}
 use Rattle.job.specs.Transcript.{AllText, nulls, sizes}
 use Rattle.job.proofs.Gathering.{stands, rows_are}
 

@@ -15,7 +15,7 @@ use kinds::length::measure;
 use std::alloc::{AllocError, Global};
 
 /// The lengths of a column: how many rows and null rows it has, how many lengths are wrapped, and every row's number.
-#[derive(Drop)]
+#[derive(PartialEq, Debug, Drop)]
 pub struct Lengths {
     pub rows: usize,
     pub nulls: usize,
