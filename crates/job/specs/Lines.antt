@@ -1,5 +1,5 @@
 -- The lines that a job prints.
-use Rattle.std.specs.Prelude.{ℕ, List, ◌++◌, ℤ, Ok, Err, codes, decimal, Result}
+use Rattle.std.specs.Prelude.{ℕ, List, ◌++◌, length, ℤ, Ok, Err, vec_items, codes, decimal, Result}
 use Rattle.std.specs.Borrow.{Bor}
 use Rattle.std.specs.Fmt.{signed_decimal}
 use Rattle.job.specs.declared.fault.JobFault.{JobFault}
@@ -12,7 +12,7 @@ line_text n refusal a b c = decimal n ++ (codes " " ++ (decimal refusal ++ (code
 
 -- the line of operation n by its answer: its lengths' counts, or the number of its fault and three zeros
 abbrev pub operation_text : ℕ → Result (Bor Lengths) JobFault → List ℕ
-operation_text n (Ok m) = line_text n 0 m.now.rows m.now.nulls m.now.wrapped
+operation_text n (Ok m) = line_text n 0 (length (vec_items m.now.numbers)) m.now.nulls m.now.wrapped
 operation_text n (Err f) = line_text n (number f) 0 0 0
 
 abbrev pub line : ℕ → ℕ → ℕ → ℕ → ℕ → List ℕ

@@ -23,11 +23,11 @@ impl fmt::Display for Line<'_> {
         match self.answer {
             Ok(lengths) => {
                 let Lengths {
-                    rows,
                     nulls,
                     wrapped,
-                    ..
+                    numbers,
                 } = lengths;
+                let rows = numbers.len();
                 write!(f, "{n} 0 {rows} {nulls} {wrapped}")
             }
             Err(fault) => write!(f, "{n} {} 0 0 0", fault.number()),
