@@ -53,6 +53,10 @@ has_read cs k f part rs h l t = record {
 pub read_has : (cs : List ColumnRecord) (k : ℕ) (f : OffsetFormat) (rs : List GivenRow) → (r : Read cs k f rs) → Has cs k f r.taken.part
 read_has cs k f rs r = record { taken = r.taken; inside = r.inside; here = r.here; small = r.small; format = r.format; part_is = refl }
 
+-- a column that no record has is not read
+pub unread : (cs : List ColumnRecord) (k : ℕ) → ((f : OffsetFormat) (part : List ℕ) → Has cs k f part → ⊥) → IsNotRead cs k
+unread cs k h = λ f rs r. h f r.taken.part (read_has cs k f rs r)
+
 some_same : (f g : OffsetFormat) (o : Option OffsetFormat) → o ≡ Some f → o ≡ Some g → f ≡ g
 some_same f g o p q = cc
 

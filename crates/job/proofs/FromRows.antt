@@ -29,8 +29,7 @@ use Rattle.job.specs.declared.fault.JobFault.TheVariants.{Record, NotRead, File,
 use Rattle.job.specs.declared.gather.Gathered.{Gathered}
 use Rattle.job.specs.declared.lengths.Lengths.{Lengths}
 use Rattle.job.specs.Gathered.{starts_of, given_of_row, Lays}
-use Rattle.job.specs.Faults.{OnFault}
-use Rattle.job.specs.Measured.{null_rows, Shows, Tells, MeasuredAs, PartChecked, PartMeasured}
+use Rattle.job.specs.Measured.{null_rows, Shows, Tells, MeasuredAs, PartMeasured}
 use Rattle.job.specs.Transcript.{AllText, nulls, sizes}
 use Rattle.job.proofs.Gathering.{stands, rows_are}
 
@@ -93,17 +92,17 @@ made_over l k rs (Err f) o q h = refused_over l rs f o h
 
 -- the lists that were gathered hold the rows
 pub over_from : {X : Type 0} (number : X → ℤ) (g : Gathered X) (rs : List GivenRow) (text : Bool) (n : ℕ) (o : Offsets) (ds : Bor (List ℕ)) (m : Bitmap)
-    → Lays number g rs → n + 1 ≡ vec_len g.offsets → length rs ≤ 65536 → length (flat_map (λ r. r.bytes) rs) ≤ 65536 → 2147483647 ≤ ceiling_of o → numbers o ≡ map number (vec_items g.offsets)
+    → Lays number g rs → n + 1 ≡ vec_len g.offsets → 2147483647 ≤ ceiling_of o → numbers o ≡ map number (vec_items g.offsets)
     → ds.now ≡ vec_items g.«data» → m.bytes.now ≡ vec_items g.validity → m.start ≡ 0
     → Over (record { text = text; rows = n; offsets = o; «data» = ds; validity = Some m }) rs
-over_from number g rs text n o ds m y r few low k p q b z = record {
+over_from number g rs text n o ds m y r k p q b z = record {
   counted = omega (arith, rows_are number g rs y, r);
   starts = p ∙ y.starts;
   content = q ∙ y.content;
   covered = le-leb (m.start + n) (8 * length m.bytes.now) (omega (arith, rows_are number g rs y, r, y.covered, ap length b, z));
   bits = λ i d l. (λ j. bit (b j) (sums i j)) ∙ y.bits i d l;
-  few = omega arith;
-  low = omega arith;
+  few = omega (arith, rows_are number g rs y, g.small);
+  low = omega (arith, g.«data».ok.0, ap length y.content, g.begun, g.small);
 }
   where
     sums : (i : ℕ) → m.start + i ≡ i

@@ -8,11 +8,9 @@ use Rattle.std.proofs.lemmas.Int.{ints}
 use Rattle.encoding.specs.Offsets.{numbers, ceiling_of, place, at, Right, AllRight}
 use Rattle.columns.specs.declared.lists.Lists.{Lists}
 use Rattle.columns.specs.Lists.{valid_at, covers, bytes_at, row_at, meaning_of, Shaped, Ordered}
-use Rattle.records.specs.Layout.{GivenRow, Laid}
-use Rattle.records.specs.Layout.Laid.{none, more}
+use Rattle.records.specs.Layout.{GivenRow}
 use Rattle.job.specs.declared.gather.Gathered.{Gathered}
 use Rattle.job.specs.Gathered.{starts_of, given_of_row, Lays}
-use Rattle.records.proofs.Little.{reads_fits}
 
 -- the bytes of these rows, one after another
 abbrev pub bytes_of : List GivenRow → List ℕ
@@ -131,17 +129,6 @@ stands l rs n o c m v few small =
           get_or-map-range_with_len row 0 l.rows k k d i (omega arith) ∙ row_same _ _ (get_or rs k d) (v k d j) (read k d j)),
       read,
     )
-
--- a rows part is no shorter than its rows are many, nor than their bytes
-pub laid_small : {b : List ℕ} {rs : List GivenRow} → Laid b rs → (length rs ≤ length b) × (length (flat_map (λ r. r.bytes) rs) ≤ length b)
-laid_small none = (omega arith, omega arith)
-laid_small (more {b = b} {rest = rest} {s = s} {v = v} {rs = rs} r l) =
-    let k = laid_small l in
-    let n = ap length r.1 in
-    let p = reads_fits r.2 in
-    let q = length-append s rest in
-    let z = length-append s (flat_map (λ r. r.bytes) rs) in
-    (omega arith, omega arith)
 
 -- the lists of rows have one offset more than rows
 pub rows_are : {X : Type 0} (number : X → ℤ) (g : Gathered X) (rs : List GivenRow) → Lays number g rs → vec_len g.offsets ≡ length rs + 1

@@ -77,7 +77,7 @@ pub record Taken {X : Type 0} (number : X → ℤ) (part rest : List ℕ) (g : G
   pub lays : Lays number g rs
   pub onward : (qs : List GivenRow) → Laid rest qs → Laid part (rs ++ qs)
   pub back : (ws : List GivenRow) → Laid part ws → (qs : List GivenRow) × (ws ≡ rs ++ qs) × Laid rest qs
-  pub room : vec_len g.«data» + length rest ≤ length part
+  pub room : vec_len g.offsets + vec_len g.«data» + length rest ≤ length part + 1
 
 -- a row more is read
 pub taken_more : {X : Type 0} (number : X → ℤ) (part rest t : List ℕ) (g h : Gathered X) (v : Bool) (s : List ℕ) (rs : List GivenRow) → Taken number part rest g rs
@@ -88,6 +88,7 @@ taken_more number part rest t g h v s rs k r l =
     let size : vec_len h.«data» ≡ vec_len g.«data» + length s =
     h.«data».ok.0 ∙ ap length (l.content ∙ bytes_append rs (q ∷ []) ∙ ap (λ (z : List ℕ). bytes_of rs ++ z) (append-nil s))
     ∙ length-append (bytes_of rs) s ∙ ap (λ (z : ℕ). z + length s) (sym (g.«data».ok.0 ∙ ap length k.lays.content)) in
+    let places : vec_len h.offsets ≡ vec_len g.offsets + 1 = omega (arith, rows_are number h (rs ++ q ∷ []) l, rows_are number g rs k.lays, length_push rs q) in
     let x = k.room in
     record {
       lays = l;

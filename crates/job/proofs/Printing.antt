@@ -1,8 +1,7 @@
 -- What operations print.
-use Rattle.std.proofs.Common.{◌≡◌, ℕ, Bool, ◌⊎◌, List, ◌++◌, length, ℤ, Ok, Err, vec_items, Result, sym, ap, ◌∙◌, subst, inl, inr}
+use Rattle.std.proofs.Common.{◌≡◌, ℕ, Bool, ◌⊎◌, List, ◌++◌, length, Ok, Err, vec_items, Result, subst, inl, inr}
 use Rattle.std.specs.List.{flat_map}
 use Rattle.std.proofs.lemmas.List.{length-map}
-use Rattle.kernels.specs.Lengths.{numbers_in, over_in}
 use Rattle.kernels.specs.declared.length.LengthFault.TheVariants.{Rows}
 use Rattle.kernels.specs.declared.length.Unit as unit
 use Rattle.kinds.specs.Lengths.{ceiling}
@@ -21,13 +20,8 @@ use Rattle.job.specs.Transcript.{ColumnRecord, IsNotRead, nulls, sizes, length_l
 
 -- a granted measure is printed as its lines
 lines_are : (u : unit.Unit) (n : ℕ) (wide : Bool) (rs : List GivenRow) (m : Lengths) → Tells u (ceiling wide) (nulls rs) (sizes rs) m
-    → length_lines u n wide rs ≡ line n 0 m.rows m.nulls m.wrapped ++ flat_map number_line (vec_items m.numbers)
-lines_are u n wide rs m t =
-    ap (λ (x : ℕ). line n 0 x (nulls rs) (over_in u (ceiling wide) (sizes rs)) ++ flat_map number_line (numbers_in u (ceiling wide) (sizes rs)))
-    (sym (t.rows_are ∙ length-map rs (λ (r : GivenRow). length r.bytes)))
-    ∙ ap (λ (x : ℕ). line n 0 m.rows x (over_in u (ceiling wide) (sizes rs)) ++ flat_map number_line (numbers_in u (ceiling wide) (sizes rs))) (sym t.nulls_are)
-    ∙ ap (λ (x : ℕ). line n 0 m.rows m.nulls x ++ flat_map number_line (numbers_in u (ceiling wide) (sizes rs))) (sym t.wrapped_are)
-    ∙ ap (λ (zs : List ℤ). line n 0 m.rows m.nulls m.wrapped ++ flat_map number_line zs) (sym t.numbers_are)
+    → length_lines u n wide rs ≡ line n 0 (length (vec_items m.numbers)) m.nulls m.wrapped ++ flat_map number_line (vec_items m.numbers)
+lines_are u n wide rs m t = rw (t.numbers_are, t.nulls_are, t.wrapped_are) (simp length-map)
 
 -- a measure as an operation
 pub operation_measured : (cs : List ColumnRecord) (n : ℕ) (u : unit.Unit) (c : ℕ) (x : rec.Record) (r : Result Lengths JobError) (added : List ℕ) → Measures x u c → Names x c

@@ -24,9 +24,8 @@ use Rattle.job.specs.Transcript.{ColumnRecord, AllText, Read, IsNotRead, nulls, 
 abbrev pub null_rows : List SourceRow → ℕ
 null_rows rs = count_by (λ r. not r.valid) rs
 
--- the numbers that a granted measure holds: so many nulls, and these lengths in this unit and in the width up to c
+-- the numbers that a granted measure holds: so many nulls, and these lengths, one for each row, in this unit and in the width up to c
 pub record Tells (u : unit.Unit) (c nulls : ℕ) (ls : List ℕ) (m : Lengths) : Type 0 where
-  pub rows_are : m.rows ≡ length ls
   pub nulls_are : m.nulls ≡ nulls
   pub wrapped_are : m.wrapped ≡ over_in u c ls
   pub numbers_are : vec_items m.numbers ≡ numbers_in u c ls

@@ -1,5 +1,5 @@
 -- What operations print, by the columns that they name.
-use Rattle.std.specs.Prelude.{◌≡◌, ℕ, ◌⊎◌, List, ◌++◌, Ok, Err, vec_items, Result}
+use Rattle.std.specs.Prelude.{◌≡◌, ℕ, ◌⊎◌, List, ◌++◌, length, Ok, Err, vec_items, Result}
 use Rattle.std.specs.List.{flat_map}
 use Rattle.kinds.specs.declared.fault.KindFault.TheVariants.{Lacks}
 use Rattle.kinds.specs.declared.fault.KindFault.TheVariants.{Length as Measure}
@@ -20,7 +20,7 @@ IsRead cs c = (k : OffsetFormat) × (rs : List GivenRow) × Read cs c k rs
 
 -- what operation n prints that has this answer: its lengths, or the number of its fault; want of memory is not printed
 abbrev pub Prints : ℕ → Result Lengths JobError → List ℕ → Type 0
-Prints n (Ok m) s = s ≡ line n 0 m.rows m.nulls m.wrapped ++ flat_map number_line (vec_items m.numbers)
+Prints n (Ok m) s = s ≡ line n 0 (length (vec_items m.numbers)) m.nulls m.wrapped ++ flat_map number_line (vec_items m.numbers)
 Prints n (Err (Memory e)) s = ⊥
 Prints n (Err (Fault f)) s = s ≡ line n (number f) 0 0 0
 

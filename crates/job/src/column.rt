@@ -57,6 +57,8 @@ fn measure_in<O: Offset>(
     lengths_of(heap, &column, unit)
 }
 
+// Two branches on the width, and no function for both: a value chooses a type parameter by a branch alone, and a branch that
+// calls either of two generic functions would need a trait of its own.
 impl OffsetFormat {
     // Whether the column over the rows of a record can be made.
     pub(crate) fn check(self, heap: Global, part: Part<'_>) -> Result<(), JobError>

@@ -51,15 +51,20 @@ pub struct Columns<'c, 'a> {
 }
 
 impl<'a> Columns<'_, 'a> {
-    // The format and the rows part of a column, where its format is built.
-    fn find(&self, column: u16) -> Option<(OffsetFormat, Part<'a>)>
-        ensures { MatchOption result ((f : Built) (part : List ℕ) → Has (records_of self.now.entries.now) column f part → ⊥)
-            (λ p. Has (records_of self.now.entries.now) column p.0 p.1.bytes.now) }
+    // The format and the rows part of a column. Refuses by 18 where it is not taken, its format is not built, or its part is
+    // too long.
+    fn find(&self, column: u16) -> Result<(OffsetFormat, Part<'a>), JobFault>
+        ensures { MatchResult result (λ p. Has (records_of self.now.entries.now) column p.0 p.1.bytes.now)
+            (λ e. (e ≡ JobFault.NotRead) × ((f : Built) (part : List ℕ) → Has (records_of self.now.entries.now) column f part → ⊥)) }
     {
-        let entry = self.entries.get(usize::from(column))?;
-        let format = built(entry.format)?;
-        let part = Part::new(entry.part)?;
-        Some((format, part))
+        if let Some(entry) = self.entries.get(usize::from(column))
+            && let Some(format) = built(entry.format)
+            && let Some(part) = Part::new(entry.part)
+        {
+            Ok((format, part))
+        } else {
+            Err(JobFault::NotRead)
+        }
     }
 
     /// Whether a column of a job is read. Refuses by 18 where it is not.
@@ -67,7 +72,7 @@ impl<'a> Columns<'_, 'a> {
         ensures { MatchResult result (λ _. IsRead (records_of self.now.entries.now) column)
             (OnFault (λ f. (f ≡ JobFault.NotRead) × IsNotRead (records_of self.now.entries.now) column)) }
     {
-        let (format, part) = self.find(column).ok_or(JobFault::NotRead)?;
+        let (format, part) = self.find(column)?;
         format.check(self.heap, part).map_err(JobError::unread)
     }
 
@@ -75,7 +80,7 @@ impl<'a> Columns<'_, 'a> {
     pub fn measure(&self, column: u16, unit: Unit) -> Result<Lengths, JobError>
         ensures { ColumnMeasured unit (records_of self.now.entries.now) column result }
     {
-        let (format, part) = self.find(column).ok_or(JobFault::NotRead)?;
+        let (format, part) = self.find(column)?;
         format
             .measure(self.heap, part, unit)
             .map_err(JobError::unread)

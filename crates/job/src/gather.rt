@@ -21,6 +21,8 @@ pub struct Gathered<O> {
     pub validity: Vec<u8>,
     // There is one offset more than rows.
     ghost begun: { 0 < vec_len offsets },
+    // The rows part of a record has no more rows and bytes than this.
+    ghost small: { vec_len offsets + vec_len «data» ≤ 65537 },
 }
 
 // The number n as an offset.
@@ -40,7 +42,7 @@ fn add_bit(validity: &mut Vec<u8>, rows: usize, valid: bool) -> Result<(), Alloc
     if rows % 8 == 0 {
         validity.push(0)?;
     }
-    let _ = write(validity, 0, rows, valid);
+    write(validity, 0, rows, valid).unwrap();
     Ok(())
 }
 
@@ -68,7 +70,7 @@ impl<O: Offset> Gathered<O> {
 
     // Adds a row to the lists.
     fn add_row(&mut self, row: Row<'_>) -> Result<(), AllocError>
-        requires size { vec_len self.old.«data» + length row.bytes.now ≤ 65536 }
+        requires size { vec_len self.old.offsets + vec_len self.old.«data» + length row.bytes.now ≤ 65536 }
         requires covered { vec_len self.old.offsets ≤ 8 * vec_len self.old.validity + 1 }
         ensures { OnOk result ((rs : List GivenRow) → Lays O.Offset.number self.old rs
             → Lays O.Offset.number self.new (rs ++ record { valid = row.entry.valid; bytes = row.entry.bytes.now } ∷ [])) }
@@ -81,8 +83,7 @@ impl<O: Offset> Gathered<O> {
 
     /// The column over the lists. It is made unless it is text and a row is no text.
     pub(crate) fn column(&self, text: bool) -> Result<OffsetColumn<'_>, ColumnFault>
-        ensures { (rs : List GivenRow) → Lays O.Offset.number self.now rs → length rs ≤ 65536 → length (flat_map (λ r. r.bytes) rs) ≤ 65536
-            → MatchResult result (λ c. (text ≡ true → AllText rs) × Shows O.Offset.ceiling rs c)
+        ensures { (rs : List GivenRow) → Lays O.Offset.number self.now rs → MatchResult result (λ c. (text ≡ true → AllText rs) × Shows O.Offset.ceiling rs c)
             (λ f. (text ≡ true) × (AllText rs → ⊥) × (column_fault_number f ≡ 4)) }
     {
         let map = Bitmap {

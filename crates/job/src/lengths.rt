@@ -14,10 +14,9 @@ use kinds::column::Column;
 use kinds::length::measure;
 use std::alloc::{AllocError, Global};
 
-/// The lengths of a column: how many rows and null rows it has, how many lengths are wrapped, and every row's number.
-#[derive(Drop)]
+/// The lengths of a column: how many null rows it has, how many lengths are wrapped, and every row's number.
+#[derive(PartialEq, Debug, Drop)]
 pub struct Lengths {
-    pub rows: usize,
     pub nulls: usize,
     pub wrapped: usize,
     pub numbers: Vec<i64>,
@@ -60,11 +59,9 @@ pub(crate) fn lengths_of(
     let mut narrow = [0i32; 4096];
     let mut wide = [0i64; 4096];
     let wrapped = measure(&Column::Offset(*column), unit, &mut narrow, &mut wide)?;
-    let rows = column.len();
     Ok(Lengths {
-        rows,
         nulls: count_nulls(column),
         wrapped,
-        numbers: numbers_of(heap, column.is_wide(), rows, &narrow, &wide)?,
+        numbers: numbers_of(heap, column.is_wide(), column.len(), &narrow, &wide)?,
     })
 }

@@ -25,15 +25,23 @@ fn put_numbers(out: &mut String, numbers: &[i64]) -> Result<(), AllocError>
 }
 
 // Adds what an operation answers: its lengths, or the number of its fault. Want of memory is passed on.
-fn put_answer(out: &mut String, n: u64, answer: Result<Lengths, JobError>) -> Result<(), AllocError>
-    ensures { OnOk result ((added : List ℕ) × (string_bytes out.new ≡ string_bytes out.old ++ added) × Prints n answer added) }
+fn put_answer(
+    out: &mut String,
+    operation: u64,
+    answer: Result<Lengths, JobError>,
+) -> Result<(), AllocError>
+    ensures { OnOk result ((added : List ℕ) × (string_bytes out.new ≡ string_bytes out.old ++ added) × Prints operation answer added) }
 {
     match answer {
         Ok(lengths) => {
-            writeln!(out, "{}", Line::measured(n, &lengths))?;
+            let answer = Ok(&lengths);
+            writeln!(out, "{}", Line { operation, answer })?;
             put_numbers(out, &lengths.numbers)
         }
-        Err(JobError::Fault(fault)) => writeln!(out, "{}", Line::refused(n, fault)),
+        Err(JobError::Fault(fault)) => {
+            let answer = Err(fault);
+            writeln!(out, "{}", Line { operation, answer })
+        }
         Err(JobError::Memory(e)) => Err(e),
     }
 }

@@ -47,11 +47,8 @@ impl<'a> Job<'a> {
         let format = read_format(letters).ok_or(JobFault::Record)?;
         match part.check(self.heap, format) {
             Ok(()) => {}
-            Err(JobError::Memory(e)) => return Err(e.into()),
-            Err(JobError::Fault(fault)) => match fault {
-                JobFault::Record => return Err(fault.into()),
-                _ => writeln!(out, "{}", Refusal { fault })?,
-            },
+            Err(e @ (JobError::Memory(_) | JobError::Fault(JobFault::Record))) => return Err(e),
+            Err(JobError::Fault(fault)) => writeln!(out, "{}", Refusal { fault })?,
         }
         self.columns.push(Entry {
             format,

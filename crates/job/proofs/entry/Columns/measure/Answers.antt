@@ -1,20 +1,16 @@
 use Rattle.std.proofs.Common.{Err, ap, ◌∙◌}
-use Rattle.std.proofs.lemmas.Option.{MatchOption-at_none, MatchOption-at_some}
 use Rattle.std.proofs.lemmas.Result.{err_from_is_err_and, MatchResult-weaker}
 use Rattle.job.specs.States.{records_of}
-use Rattle.job.proofs.Finding.{read_has, column_measured}
-use Rattle.job.proofs.Refusing.{refused_none, given_some}
+use Rattle.job.proofs.Finding.{unread, column_measured}
 use Rattle.job.proofs.entry.Columns.measure.Goals as goal
 
 pub returns-in_err-format : goal.returns-in_err-format
 returns-in_err-format c =
     let p = err_from_is_err_and c.from_residual.result c.from_residual.ensures.1 in
-    let o = refused_none _ _ _ c.in_err-format.ensures.value in
-    let h = MatchOption-at_none _ _ o.0 c.find.ensures in
-    rw (p.1, p.2, o.1) (λ f rs r. h f _ (read_has (records_of c.args.self.now.entries.now) c.args.column f rs r))
+    let h = c.in_err-format.ensures in
+    rw (p.1, p.2, h.0) (unread (records_of c.args.self.now.entries.now) c.args.column h.1)
 
 pub returns : goal.returns
 returns c =
-    let h = MatchOption-at_some _ _ _ (given_some _ _ _ c.in_ok-format.ensures.value) c.find.ensures in
-    column_measured c.args.unit (records_of c.args.self.now.entries.now) c.args.column c.in_ok-format.format _ c.measure.result c.map_err.result h c.measure.ensures
+    column_measured c.args.unit (records_of c.args.self.now.entries.now) c.args.column c.in_ok-format.format _ c.measure.result c.map_err.result c.in_ok-format.ensures c.measure.ensures
     (MatchResult-weaker c.measure.result c.map_err.ensures.cases (λ m e. e) (λ e k. let p = err_from_is_err_and c.map_err.result k in p.1 ∙ ap Err p.2))
