@@ -2,6 +2,7 @@
 #![tactic(auto)]
 
 use anyhow::anyhow;
+use job::part::MAX_FILE;
 use job::run::Job;
 use std::alloc::Global;
 use std::fs::File;
@@ -9,7 +10,7 @@ use std::io::Read;
 use std::{env, io};
 
 // One byte more than a job file may have: what is read of a longer file is enough to refuse it.
-const ENOUGH: u64 = 65_537;
+const ENOUGH: u64 = MAX_FILE as u64 + 1;
 
 // The text is printed once so much of it stands ready, and at the end.
 const READY: usize = 4096;

@@ -1,8 +1,8 @@
 // The rows part of a column record.
 ghost use Rattle.std.specs.Prelude.{◌≡◌, ◌<◌, ◌≤◌, length, MatchOption};
 
-// The longest job file, in bytes.
-pub(crate) const MAX_FILE: usize = 65_536;
+/// The longest job file, in bytes.
+pub const MAX_FILE: usize = 65_536;
 
 /// The bytes that hold the rows of a column record: no more than a job file may have.
 #[derive(Clone, Copy)]
