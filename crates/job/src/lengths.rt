@@ -29,7 +29,7 @@ pub(crate) fn count_nulls<S: Source>(source: &S) -> usize
     Rows::new(source).filter(|row| !row.valid).count()
 }
 
-// The first numbers of the list that is meant.
+// The first numbers of the list that is meant: a branch, since a value chooses a type by no other way.
 fn numbers_of(
     heap: Global,
     is_wide: bool,
@@ -56,6 +56,7 @@ pub(crate) fn lengths_of(
 ) -> Result<Lengths, JobError>
     ensures { MeasuredAs unit (lists_of column.now) result }
 {
+    // A kernel is lent its memory, whichever width it writes.
     let mut narrow = [0i32; 4096];
     let mut wide = [0i64; 4096];
     let wrapped = measure(&Column::Offset(*column), unit, &mut narrow, &mut wide)?;

@@ -58,6 +58,7 @@ pub(crate) fn bits_agree(asked: &str, answer: &str) -> anyhow::Result<bool> {
     let (width, rest) = first_word(answer);
     let (number, word) = first_word(rest);
     let wanted = number.parse::<i64>()?;
+    // As the letter of a column does, the word chooses a type.
     let said = match width {
         "32" => product::<i32>(bytes),
         "64" => product::<i64>(bytes),

@@ -142,6 +142,7 @@ fn agrees_in<O: Offset + FromStr<Err = ParseIntError> + Drop>(
 /// Whether the column of this format and row count, over the lists that follow, is made or refused as the answer says.
 pub(crate) fn column_agrees(heap: Global, asked: &str, rest: &str) -> anyhow::Result<bool> {
     let (letter, count) = first_word(asked);
+    // The letter is a word of the file, and chooses the width, a type.
     match letter {
         "u" => agrees_in::<i32>(heap, true, count, rest),
         "U" => agrees_in::<i64>(heap, true, count, rest),
