@@ -21,7 +21,7 @@ pub struct Gathered<O> {
     pub validity: Vec<u8>,
     // There is one offset more than rows.
     ghost begun: { 0 < vec_len offsets },
-    // The rows part of a record has no more rows and bytes than this.
+    // A rows part of 65,536 bytes has no more rows and bytes of rows together.
     ghost small: { vec_len offsets + vec_len «data» ≤ 65537 },
 }
 
