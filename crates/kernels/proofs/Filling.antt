@@ -1,11 +1,10 @@
 -- A list filled from its front, one number after the other.
-use Rattle.std.proofs.Common.{◌≡◌, ℕ, ◌+◌, ◌<◌, ◌≤◌, not, ltb, leb, List, [], ◌∷◌, ◌++◌, map, length, get_or, take, drop, set, ℤ, pos, Ok, Err, refl, sym, ap, ◌∙◌, append_assoc, arith}
-use Rattle.std.proofs.lemmas.List.{map-set, drop_more, set_at, map_more, length-map, length-take-le, take_all}
+use Rattle.std.proofs.Common.{◌≡◌, ℕ, ◌+◌, ◌<◌, ◌≤◌, not, leb, List, [], ◌∷◌, ◌++◌, map, length, get_or, take, drop, set, ℤ, pos, sym, ap, ◌∙◌, append_assoc, arith}
+use Rattle.std.proofs.lemmas.List.{map-set, drop_more, set_at, map_more, length-map, length-take-le}
 use Rattle.std.proofs.lemmas.List.Sums.{count_by_more_yes, count_by_more_no}
-use Rattle.std.proofs.lemmas.Bool.{cond-true, cond-false, le-ltb, lt-ltb, le-leb, lt-leb, not_from_true, not_from_false}
-use Rattle.kernels.specs.declared.length.LengthFault.TheVariants.{Rows}
+use Rattle.std.proofs.lemmas.Bool.{le-leb, lt-leb, not_from_true, not_from_false}
 use Rattle.kernels.specs.declared.length.Unit.{Unit}
-use Rattle.kernels.specs.Lengths.{in_unit, numbers_in, over_in, Fills}
+use Rattle.kernels.specs.Lengths.{in_unit, numbers_in, over_in}
 
 pub one_more : {X : Type 0} (f : ℕ → ℤ) (number : X → ℤ) (ls : List ℕ) (start : List ℤ) (out : List X) (i : ℕ) (x : X)
     → map number out ≡ map f (take i ls) ++ drop i start → i < length ls → length ls ≤ length start → number x ≡ f (get_or ls i 0)
@@ -34,27 +33,3 @@ pub record Filling {X : Type 0} (u : Unit) (number : X → ℤ) (c : ℕ) (ls : 
   pub counted : over ≡ over_in u c (take i ls)
   pub few : over ≤ i
   pub within : i ≤ length ls
-
--- every row is written
-pub filled_all : {X : Type 0} (u : Unit) (number : X → ℤ) (c : ℕ) (ls : List ℕ) (old new : List X) (i over : ℕ) → length ls ≤ length old → length ls ≤ i
-    → Filling u number c ls old new i over → Fills u number c ls old new (Ok over)
-filled_all u number c ls old new i over h l f =
-    let e : i ≡ length ls = omega (arith, l, f.within) in
-    let all = take_all (length ls) ls (omega arith) in
-    let n = length-map old number in
-    record {
-      answer = ap Ok (f.counted ∙ ap (λ (k : ℕ). over_in u c (take k ls)) e ∙ ap (over_in u c) all)
-          ∙ sym (cond-false (ltb (length old) (length ls)) _ _ (le-ltb (length old) (length ls) h));
-      after = f.written ∙ ap (λ (k : ℕ). numbers_in u c (take k ls) ++ drop k (map number old)) e
-          ∙ ap (λ (zs : List ℕ). numbers_in u c zs ++ drop (length ls) (map number old)) all
-          ∙ sym (cond-false (ltb (length (map number old)) (length ls)) _ _ (le-ltb _ _ (omega (arith, n, h))));
-      kept = λ l. absurd (omega (arith, h, l));
-    }
-
--- no row is written where there are too many
-pub filled_none : {X : Type 0} (u : Unit) (number : X → ℤ) (c : ℕ) (ls : List ℕ) (old : List X) → length old < length ls → Fills u number c ls old old (Err Rows)
-filled_none u number c ls old h = record {
-  answer = sym (cond-true (ltb (length old) (length ls)) _ _ (lt-ltb _ _ h));
-  after = sym (cond-true (ltb (length (map number old)) (length ls)) _ _ (lt-ltb _ _ (omega (arith, length-map old number, h))));
-  kept = λ _. refl;
-}
