@@ -29,7 +29,7 @@ part '4b printing by hand' 'format!\('
 part '4c From impls' 'impl(<[^>]*>)? (From|TryFrom|Display|fmt::Display)'
 part '5b parameters that travel together' '^\s+(text: bool|rows: usize|offsets: Offsets|narrow: &mut|wide: &mut|columns: &\[Entry)'
 part '6a fixed buffers' '\[0[a-z0-9]*; [0-9]+\]'
-part '7 which step, by a word or a flag' 'match (section|unit|is_wide|letter|width) |if (is_wide|format\.wide) '
+part '7 which step, by a word or a flag' 'match (section|unit|is_wide|letter|width) |if (is_wide|(format|self)\.wide) '
 
 # Facts in clauses, which the words above leave out.
 echo '== 5a a fact repeated in clauses'

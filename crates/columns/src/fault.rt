@@ -33,6 +33,7 @@ impl ColumnFault {
     }
 }
 
+// By hand: a derived `From` says nothing in a clause.
 impl From<OffsetFault> for ColumnFault {
     ghost from_gives = { λ e r. r ≡ Offset e.row };
 

@@ -33,7 +33,7 @@ impl<'a> SoundLists<'a> {
         requires { k ≤ self.now.lists.rows }
         ensures { result ≡ place (at (numbers self.now.lists.offsets) k) }
     {
-        // `as` here and in reads.rt: std has no `From` between `u64` and `usize`.
+        // `as` in this file and in reads.rt: std has no `From` between `u64` and `usize`.
         self.lists.offsets.get(k).unwrap() as usize
     }
 
@@ -52,6 +52,7 @@ impl<'a> SoundLists<'a> {
     pub(crate) fn check_texts(&self) -> Result<(), ColumnFault>
         ensures { MatchResult result (λ _. TextsTo self.now.lists self.now.lists.rows) (FirstIllFormed self.now.lists) }
     {
+        // By number, since the fault names the row.
         for row in 0..self.lists.rows {
             let (_, bytes) = self.part(row);
             utf8::check(bytes).map_err(|fault| ColumnFault::Text { row, fault })?;

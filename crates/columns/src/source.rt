@@ -1,5 +1,5 @@
 // Sources of rows.
-ghost use Rattle.std.specs.Prelude.{◌≡◌, ℕ, ◌<◌, ◌≤◌, length, MatchOption, slice_index_or};
+ghost use Rattle.std.specs.Prelude.{◌≡◌, ◌<◌, ◌≤◌, length, MatchOption, slice_index_or};
 ghost use Rattle.columns.specs.Rows.{SourceRow, Meaning, Good, row_of};
 
 use crate::row::Row;

@@ -39,8 +39,9 @@ pub trait Offset: Copy {
     ghost same: { (a b : Self) → number a ≡ number b → a ≡ b };
 }
 
-// Each width converts by itself: one text over `TryFrom` needs a law longer than both lines, and no law bounds `to_u64` by the
-// width. The other lines name what is a width's own: its greatest number, its list, its count of numbers.
+// Each width converts by itself: one text over `TryFrom` was tried and needs a law longer than both lines, and no law bounds `to_u64` by the
+// width. The other lines name what is a width's own: its greatest number, its list, its count of numbers. `as` cuts to the
+// width, for which std has no `From`.
 impl Offset for i32 {
     ghost number = { λ z. z };
 

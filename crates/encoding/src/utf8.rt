@@ -72,6 +72,7 @@ pub fn check(s: &[u8]) -> Result<(), TextFault>
     ensures answer { MatchResult result (λ _. Text s.now) (λ f. Unreadable s.now f.place × (Text s.now → ⊥)) }
     ensures law { Rfc3629 }
 {
+    // What is left, and the place where it begins: a character's size is known only once it is read.
     let mut rest = s;
     let mut place = 0;
     while !rest.is_empty() {
@@ -98,6 +99,7 @@ pub fn place(s: &[u8], k: usize) -> Option<usize>
     ensures reads { MatchOption result ((p : ℕ) → Reaches s.now k p → ⊥) (λ p. Reaches s.now k p) }
     ensures text { (n : ℕ) → Chars n s.now → MatchOption result (n < k) (λ p. (k ≤ n) × Begins s.now k p) }
 {
+    // As in `check`.
     let mut rest = s;
     let mut p = 0;
     for _ in 0..k {

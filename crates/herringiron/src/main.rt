@@ -10,6 +10,7 @@ use std::io::Read;
 use std::{env, io};
 
 // One byte more than a job file may have: what is read of a longer file is enough to refuse it.
+// `as`: std has no `From<usize>` for `u64`.
 const ENOUGH: u64 = MAX_FILE as u64 + 1;
 
 // The text is printed once so much of it stands ready, and at the end.

@@ -1,5 +1,5 @@
 -- Calls that may be refused.
-use Rattle.std.proofs.Common.{◌≡◌, None, Some, Ok, Err, Option}
+use Rattle.std.proofs.Common.{◌≡◌, None, Some, Ok, Option}
 use Rattle.std.specs.Option.{ok_or}
 use Rattle.job.specs.declared.fault.JobError.{JobError}
 use Rattle.job.specs.declared.fault.JobError.TheVariants.{Memory, Fault}

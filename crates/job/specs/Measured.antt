@@ -1,4 +1,4 @@
--- What a column's lengths are, in terms of what it shows.
+-- What a column's lengths are, in terms of what it means.
 use Rattle.std.specs.Prelude.{◌≡◌, ℕ, ◌<◌, ◌≤◌, Bool, true, not, List, length, Ok, Err, vec_items, count_by, Result}
 use Rattle.encoding.specs.Offsets.{ceiling_of}
 use Rattle.columns.specs.declared.lists.Lists.{Lists}

@@ -35,7 +35,8 @@ pub fn built(format: Format) -> Option<OffsetFormat>
     Some(OffsetFormat { text, wide })
 }
 
-// Whether the column over the rows of a record can be made, in one width of offsets.
+// Whether the column over the rows of a record can be made, in one width of offsets. `heap` goes beside `part` here and below:
+// memory is no part of a record, and a struct of both would be made at each call.
 fn check_in<O: Offset>(heap: Global, text: bool, part: Part<'_>) -> Result<(), JobError>
     ensures { PartChecked text part.entry.bytes.now result }
 {

@@ -1,5 +1,5 @@
 // Column records that a job has taken.
-ghost use Rattle.std.specs.Prelude.{◌≡◌, ℕ, List, None, MatchOption, MatchResult};
+ghost use Rattle.std.specs.Prelude.{◌≡◌, ℕ, List, None, MatchResult};
 ghost use Rattle.records.specs.Layout.{GivenRow, Laid};
 ghost use Rattle.job.specs.declared.column.OffsetFormat.{OffsetFormat as Built};
 ghost use Rattle.job.specs.Faults.{OnFault};

@@ -31,6 +31,7 @@ pub enum JobError {
     Fault(JobFault),
 }
 
+// By hand: a derived `From` says nothing in a clause.
 impl From<AllocError> for JobError {
     ghost from_gives = { λ e r. r ≡ Memory e };
 

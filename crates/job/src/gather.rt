@@ -30,6 +30,7 @@ fn to_offset<O: Offset>(n: usize) -> O
     requires { n ≤ 65536 }
     ensures { O.Offset.number result ≡ pos n }
 {
+    // `as`: std has no `From<usize>` for `u64`.
     O::from_u64(n as u64).unwrap()
 }
 
@@ -47,7 +48,6 @@ fn add_bit(validity: &mut Vec<u8>, rows: usize, valid: bool) -> Result<(), Alloc
 }
 
 impl<O: Offset> Gathered<O> {
-    ghost use Rattle.std.specs.List.{flat_map};
     ghost use Rattle.columns.specs.Faults.{number as column_fault_number};
     ghost use Rattle.job.specs.Faults.{OnFault};
     ghost use Rattle.job.specs.Gathered.{Lays};
@@ -105,6 +105,7 @@ impl<O: Offset> Gathered<O> {
             (OnFault (λ f. (f ≡ JobFault.Record) × ((rs : List GivenRow) → Laid part.entry.bytes.now rs → ⊥))) }
     {
         let mut lists = Gathered::new(heap)?;
+        // What is left of the part: a row's size is known only once it is read.
         let mut rest = part.bytes;
         while !rest.is_empty() {
             let (row, after) = next_row(rest)?;

@@ -1,7 +1,7 @@
 // The rows part of a column record.
 ghost use Rattle.std.specs.Prelude.{◌≡◌, ◌<◌, ◌≤◌, length, MatchOption};
 
-/// The longest job file, in bytes.
+/// The greatest size of a job file, in bytes.
 pub const MAX_FILE: usize = 65_536;
 
 /// The bytes that hold the rows of a column record: no more than a job file may have.

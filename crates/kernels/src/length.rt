@@ -57,7 +57,8 @@ pub fn fill<M: Measure, O: Offset>(
     }
     let ceiling = u128::from(O::max_value());
     let mut over = 0;
-    // No `zip` with the lengths: of a list that is written through it, a proof knows the length alone.
+    // No `zip` with the lengths: of a list that is written through it, a proof knows the length alone. The count is of what is
+    // written here.
     for (i, place) in out.iter_mut().enumerate() {
         let Some(bytes) = column.row_len(i) else {
             break;

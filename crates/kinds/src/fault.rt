@@ -26,6 +26,7 @@ impl KindFault {
     }
 }
 
+// By hand: a derived `From` says nothing in a clause.
 impl From<LengthFault> for KindFault {
     ghost from_gives = { λ e r. r ≡ Length e };
 

@@ -1,5 +1,5 @@
 // Lengths by kind.
-ghost use Rattle.std.specs.Prelude.{◌≡◌, ℕ, cond, length as size};
+ghost use Rattle.std.specs.Prelude.{◌≡◌, cond};
 ghost use Rattle.kernels.specs.Lengths.{answered, filled};
 ghost use Rattle.kinds.specs.Lengths.{measured, ceiling, room, Low, true_lengths, in_width, over_of, Writes};
 
@@ -9,7 +9,8 @@ use columns::measure::Measure;
 use kernels::length::{LengthFault, Unit, fill};
 
 // Writes lengths into the list of the width that is meant; the other list stays. Two lists and no struct of both: its clauses
-// would say `lists.exit.0` and `lists.exit.1.0` for `narrow.new` and `wide.new`.
+// would say `lists.exit.0` and `lists.exit.1.0` for `narrow.new` and `wide.new`. A branch, since a value chooses a type by no
+// other way.
 fn choose<M: Measure>(
     column: &M,
     unit: Unit,

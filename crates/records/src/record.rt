@@ -80,13 +80,14 @@ pub(crate) trait Number<const N: usize>: Copy {
     final fn read(b: &[u8]) -> Result<(Self, &[u8]), BadRecord>
         ensures { MatchResult result (λ p. Reads N (number p.0) b.now p.1.now) (λ _. (x : ℕ) (rest : List ℕ) → Reads N x b.now rest → ⊥) }
     {
-        // No `split_first_chunk`: it asks that N bytes fit in memory, which holds where they stand.
+        // No `split_first_chunk`: it asks for a proof that N bytes fit in memory, before it is known that so many stand here.
         let (bytes, rest) = b.split_at_checked(N).ok_or(BadRecord)?;
         let bytes = bytes.try_into().map_err(|_| BadRecord)?;
         Ok((Self::from_bytes(bytes), rest))
     }
 }
 
+// Each width by itself: `from_le_bytes` belongs to the type, and no trait of std has it.
 impl Number<2> for u16 {
     ghost number = { λ x. x };
 
@@ -174,6 +175,7 @@ fn read_join(body: &[u8]) -> Result<(u16, u16), BadRecord>
 fn read_body<'a>(kind: RecordKind, body: &'a [u8]) -> Result<Record<'a>, BadRecord>
     ensures { MatchResult result (λ x. (kind_of x ≡ kind) × Fields x body.now) (λ _. (x : Record) → kind_of x ≡ kind → Fields x body.now → ⊥) }
 {
+    // The two cuts, and the two lengths, differ in their names alone: one arm for both would have to match the kind again.
     match kind {
         RecordKind::Column => {
             let (format, rows) = read_column(body)?;

@@ -42,7 +42,7 @@ pub(crate) fn exact_agrees(asked: &str, answer: &str) -> anyhow::Result<bool> {
     Ok(bits::exact(bytes) == wanted)
 }
 
-// The product in a width, and the word for whether it fits there.
+// The product in a width, and the vector's word for whether it fits there.
 fn product<O: Offset + Into<i64>>(bytes: u64) -> (i64, &'static str) {
     let number = bits::wrapped_bits::<O>(bytes).into();
     let word = if bits::fits::<O>(bytes) {

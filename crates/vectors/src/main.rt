@@ -63,6 +63,7 @@ fn run_section<F: Fn(&str, &str) -> anyhow::Result<bool>>(
 ) -> anyhow::Result<usize>
     requires { F.IsAlwaysCallable agrees }
 {
+    // Counted here: a line that differs is printed on the way, which may fail.
     let mut run: usize = 0;
     let mut differ: usize = 0;
     for line in lines {

@@ -9,7 +9,7 @@ use columns::rows::Rows;
 use columns::source::Source;
 use encoding::bitmap::Bitmap;
 use encoding::offset::Offset;
-use std::alloc::{AllocError, Global};
+use std::alloc::Global;
 use std::fmt;
 use std::num::ParseIntError;
 use std::str::FromStr;
@@ -68,11 +68,12 @@ struct Refusal(ColumnFault);
 
 impl fmt::Display for Refusal {
     fn fmt<W: fmt::Write>(&self, f: &mut fmt::Formatter<W>) -> fmt::Result {
+        let number = self.0.number();
         match self.0 {
-            ColumnFault::Shape => write!(f, "refused 1"),
-            ColumnFault::Offset { row } => write!(f, "refused 2 {row}"),
-            ColumnFault::View { row } => write!(f, "refused 3 {row}"),
-            ColumnFault::Text { row, .. } => write!(f, "refused 4 {row}"),
+            ColumnFault::Shape => write!(f, "refused {number}"),
+            ColumnFault::Offset { row }
+            | ColumnFault::View { row }
+            | ColumnFault::Text { row, .. } => write!(f, "refused {number} {row}"),
         }
     }
 }
@@ -81,7 +82,7 @@ impl fmt::Display for Refusal {
 fn shown(heap: Global, column: &OffsetColumn<'_>) -> anyhow::Result<String> {
     let word = if column.is_text() { "text" } else { "binary" };
     let mut out = String::from_str(heap, word)?;
-    // Counted here: `count()` of the rows asks for a proof that the number fits.
+    // Counted here: `count()` of the rows asks for a proof that the number fits, and this crate has no proofs.
     let mut count = 0usize;
     for row in Rows::new(column) {
         let row = Written(row);

@@ -4,7 +4,7 @@ use std::alloc::Global;
 use std::num::ParseIntError;
 use std::str::FromStr;
 
-// By hand: the library's reader of digits takes small letters too, which the bytes of a question may not have.
+// By hand: the library's reader of digits takes small letters and a `+` too, and a vector with these has to differ, as it did.
 fn hex_digit(b: u8) -> Option<u8> {
     match b {
         b'0'..=b'9' => Some(b - b'0'),

@@ -43,6 +43,7 @@ impl<'a> Source for OffsetColumn<'a> {
     }
 
     fn row(&self, i: usize) -> Option<Row<'_>> {
+        // The bound is tried here and in `row_len`: `part` requires it, so that the check of texts has no option to open.
         if i >= self.sound.lists.rows {
             return None;
         }
