@@ -1,5 +1,6 @@
 // Lengths of rows, in bytes (or elements) and in bits.
-ghost use Rattle.std.specs.Prelude.{◌≡◌};
+ghost use Rattle.std.specs.Prelude.{◌≡◌, ◌≤◌, Decides};
+ghost use Rattle.encoding.specs.Offsets.{wrapped};
 ghost use Rattle.kernels.specs.Examples.{ExamplesHold};
 ghost use Rattle.kernels.specs.Lengths.{number as fault_number, in_unit, Fills};
 
@@ -33,13 +34,23 @@ impl LengthFault {
 }
 
 impl Unit {
-    // A length in bytes, in this unit, exactly.
-    fn exact(self, bytes: u64) -> u128
-        ensures { result ≡ in_unit self bytes }
+    // A length in bytes, in this unit, wrapped in a width.
+    fn wrapped<O: Offset>(self, bytes: u64) -> O
+        ensures { O.Offset.number result ≡ wrapped O.Offset.ceiling (in_unit self bytes) }
     {
         match self {
-            Unit::Bytes => u128::from(bytes),
-            Unit::Bits => bits::exact(bytes),
+            Unit::Bytes => O::wrapping(u128::from(bytes)),
+            Unit::Bits => bits::wrapped_bits(bytes),
+        }
+    }
+
+    // Whether a length in bytes, in this unit, fits a width.
+    fn fits<O: Offset>(self, bytes: u64) -> bool
+        ensures { Decides result (in_unit self bytes ≤ O.Offset.ceiling) }
+    {
+        match self {
+            Unit::Bytes => bytes <= O::max_value(),
+            Unit::Bits => bits::fits::<O>(bytes),
         }
     }
 }
@@ -55,7 +66,6 @@ pub fn fill<M: Measure, O: Offset>(
     if column.len() > out.len() {
         return Err(LengthFault::Rows);
     }
-    let ceiling = u128::from(O::max_value());
     let mut over = 0;
     // No `zip` with the lengths: of a list that is written through it, a proof knows the length alone. The count is of what is
     // written here.
@@ -63,9 +73,8 @@ pub fn fill<M: Measure, O: Offset>(
         let Some(bytes) = column.row_len(i) else {
             break;
         };
-        let exact = unit.exact(bytes);
-        *place = O::wrapping(exact);
-        if exact > ceiling {
+        *place = unit.wrapped(bytes);
+        if !unit.fits::<O>(bytes) {
             over += 1;
         }
     }
