@@ -40,8 +40,8 @@ pub trait Offset: Copy {
 }
 
 // Each width converts by itself: one text over `TryFrom` was tried and needs a law longer than both lines, and no law bounds `to_u64` by the
-// width. The other lines name what is a width's own: its greatest number, its list, its count of numbers. `as` cuts to the
-// width, for which std has no `From`.
+// width. `to_u64` is a test, since `try_from` took a third more instructions. The other lines name what is a width's own: its
+// greatest number, its list, its count of numbers. `as` cuts to the width, for which std has no `From`.
 impl Offset for i32 {
     ghost number = { λ z. z };
 
@@ -62,7 +62,7 @@ impl Offset for i32 {
     }
 
     fn to_u64(self) -> Option<u64> {
-        u64::try_from(self).ok()
+        (self >= 0).then_some(u64::from(self.cast_unsigned()))
     }
 
     fn lend(list: &[i32]) -> Offsets<'_> {
@@ -94,7 +94,7 @@ impl Offset for i64 {
     }
 
     fn to_u64(self) -> Option<u64> {
-        self.try_into().ok()
+        (self >= 0).then_some(self.cast_unsigned())
     }
 
     fn lend(list: &[i64]) -> Offsets<'_> {
