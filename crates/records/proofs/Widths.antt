@@ -5,7 +5,7 @@ use Rattle.std.specs.Str.Parse.{ParsesUnsigned}
 use Rattle.std.proofs.lemmas.Bool.{cases_lt}
 use Rattle.std.proofs.lemmas.Result.{OkIff-at_ok}
 use Rattle.std.proofs.lemmas.Str.Parse.{IsNumeralModel, numerals_by_fold, tells_by_index, parse_plain}
-use Rattle.std.proofs.lemmas.Fmt.{decimal-digits_value, digits_decimal, digits_value-decimal, decimal_nonempty, first_decimal, decimal_digit}
+use Rattle.std.proofs.lemmas.Fmt.{decimal-digits_value, digits_decimal, digits_value-decimal, decimal_nonempty, first_decimal, decimal_digit, length-decimal-le}
 
 -- the number n with one digit more
 abbrev pub with_digit : ℕ → ℕ → ℕ
@@ -29,6 +29,13 @@ width_front ds w h e f =
         | inr p ↦ omega (arith, ap length e, ap length (decimal_digit w (omega arith)))
       ]
     ]
+
+-- a width has one to ten digits
+pub width_length : (ds : List ℕ) (w : ℕ) → w ≤ 2147483647 → ds ≡ decimal w → (0 < length ds) × (length ds ≤ 10)
+width_length ds w h e = (
+  subst (λ (l : List ℕ). 0 < length l) (sym e) (decimal_nonempty w (omega arith)),
+  subst (λ (l : List ℕ). length l ≤ 10) (sym e) (length-decimal-le 10 w (omega arith) (omega arith) (omega arith)),
+)
 
 -- the digits of a width come to it
 pub width_value : (ds : List ℕ) (w : ℕ) → w ≤ 2147483647 → ds ≡ decimal w → fold with_digit 0 ds ≡ w

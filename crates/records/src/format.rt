@@ -15,13 +15,21 @@ pub enum Format {
     FixedSizeBinary { width: u32 },
 }
 
-// The greatest width.
+// The greatest width, and how many digits it has.
 const MAX_WIDTH: u32 = 2_147_483_647;
 
+const MAX_DIGITS: usize = 10;
+
 // The number that these digits write, if they have no spare 0 and it is at most 2147483647.
+// Never inlined, so that `read_format` stays small and is.
+#[inline(never)]
 fn read_width(digits: &[u8]) -> Option<u32>
     ensures { MatchOption result ((w : ℕ) → w ≤ 2147483647 → digits.now ≢ decimal w) (λ w. (w ≤ 2147483647) × (digits.now ≡ decimal w)) }
 {
+    // More digits are no width: they are not read.
+    if digits.len() > MAX_DIGITS {
+        return None;
+    }
     // `parse` takes a `+` and spare zeros, and a width has neither.
     if matches!(digits, [b'+', ..] | [b'0', _, ..]) {
         return None;

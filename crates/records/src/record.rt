@@ -171,7 +171,8 @@ fn read_join(body: &[u8]) -> Result<(u16, u16), BadRecord>
     Ok((left, right))
 }
 
-// The record of this kind with this body.
+// The record of this kind with this body. Inlined, so that no record is copied on its way out of `next_record`.
+#[inline(always)]
 fn read_body<'a>(kind: RecordKind, body: &'a [u8]) -> Result<Record<'a>, BadRecord>
     ensures { MatchResult result (λ x. (kind_of x ≡ kind) × Fields x body.now) (λ _. (x : Record) → kind_of x ≡ kind → Fields x body.now → ⊥) }
 {

@@ -3,8 +3,11 @@ use Rattle.std.proofs.lemmas.Bool.{cases_lt}
 use Rattle.std.proofs.lemmas.Fmt.{parse-decimal, decimal_injective, IsAscii-decimal}
 use Rattle.std.proofs.lemmas.Str.{IsUtf8-from_ascii}
 use Rattle.std.specs.Str.{IsUtf8}
-use Rattle.records.proofs.Widths.{width_front, width_parsed}
+use Rattle.records.proofs.Widths.{width_front, width_length, width_parsed}
 use Rattle.records.proofs.format.read_width.Goals as goal
+
+pub returns-then-digits-gt-MAX_DIGITS : goal.returns-then-digits-gt-MAX_DIGITS
+returns-then-digits-gt-MAX_DIGITS c = λ w h e. let s = width_length c.args.digits.now w h e in omega (arith, s.1, c.if-digits-gt-MAX_DIGITS.true)
 
 pub returns-then-matches : goal.returns-then-matches
 returns-then-matches c = λ w h e. width_front c.args.digits.now w h e (grind arith)
