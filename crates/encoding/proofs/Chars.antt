@@ -1,5 +1,5 @@
 -- Characters by their first byte and the rules of the bytes that follow.
-use Rattle.std.proofs.Common.{◌≡◌, ℕ, ◌≤◌, ◌↔◌, List, [], ◌∷◌, length, get_or, Some, sym, ap, ◌∙◌, inl, inr, arith}
+use Rattle.std.proofs.Common.{◌≡◌, ℕ, ◌≤◌, ◌↔◌, List, [], ◌∷◌, length, get_or, Some, inl, inr, arith}
 use Rattle.std.proofs.lemmas.Bool.Decides.{nat_tests}
 use Rattle.std.proofs.lemmas.Bool.{cases_lt}
 use Rattle.encoding.specs.Utf8.{Char, utf8_1, utf8_2, utf8_3a, utf8_3b, utf8_3c, utf8_3d, utf8_4a, utf8_4b, utf8_4c, size_of, In, Second, Tail}
@@ -79,28 +79,6 @@ char_told (utf8_3d h k t) = grind (arith, nat_tests)
 char_told (utf8_4a h k t u) = grind (arith, nat_tests)
 char_told (utf8_4b h k t u) = grind (arith, nat_tests)
 char_told (utf8_4c h k t u) = grind (arith, nat_tests)
-
--- a list of one to four bytes, by the size that its first byte tells
-pub sized_1 : (s : List ℕ) → length s ≡ 1 → (size_of (get_or s 0 0) ≡ Some 1) ↔ Char s
-sized_1 s l = (λ e. char_1 s l (grind (arith, nat_tests), grind (arith, nat_tests)), λ h. sym (char_told h) ∙ ap Some l)
-
-pub sized_2 : (s : List ℕ) → length s ≡ 2 → ((size_of (get_or s 0 0) ≡ Some 2) × Tail (get_or s 1 0)) ↔ Char s
-sized_2 s l = (
-  λ p. let e = p.0 in (char_2 s l (grind (arith, nat_tests), grind (arith, nat_tests))).0 p.1,
-  λ h. let e : size_of (get_or s 0 0) ≡ Some 2 = sym (char_told h) ∙ ap Some l in (e, (char_2 s l (grind (arith, nat_tests), grind (arith, nat_tests))).1 h),
-)
-
-pub sized_3 : (s : List ℕ) → length s ≡ 3 → ((size_of (get_or s 0 0) ≡ Some 3) × Second (get_or s 0 0) (get_or s 1 0) × Tail (get_or s 2 0)) ↔ Char s
-sized_3 s l = (
-  λ p. let e = p.0 in (char_3 s l (grind (arith, nat_tests), grind (arith, nat_tests))).0 (p.1, p.2),
-  λ h. let e : size_of (get_or s 0 0) ≡ Some 3 = sym (char_told h) ∙ ap Some l in let q = (char_3 s l (grind (arith, nat_tests), grind (arith, nat_tests))).1 h in (e, q.0, q.1),
-)
-
-pub sized_4 : (s : List ℕ) → length s ≡ 4 → ((size_of (get_or s 0 0) ≡ Some 4) × Second (get_or s 0 0) (get_or s 1 0) × Tail (get_or s 2 0) × Tail (get_or s 3 0)) ↔ Char s
-sized_4 s l = (
-  λ p. let e = p.0 in (char_4 s l (grind (arith, nat_tests), grind (arith, nat_tests))).0 (p.1, p.2, p.3),
-  λ h. let e : size_of (get_or s 0 0) ≡ Some 4 = sym (char_told h) ∙ ap Some l in let q = (char_4 s l (grind (arith, nat_tests), grind (arith, nat_tests))).1 h in (e, q.0, q.1, q.2),
-)
 
 -- a character has one to four bytes
 pub char_size : {c : List ℕ} → Char c → (1 ≤ length c) × (length c ≤ 4)

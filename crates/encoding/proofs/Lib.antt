@@ -2,7 +2,6 @@ pub mod BitLaws
 pub mod Bytes
 pub mod Chars
 pub mod Edges
-pub mod Fronts
 pub mod Reading
 pub mod Scalars
 pub mod Texts

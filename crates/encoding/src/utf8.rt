@@ -1,5 +1,5 @@
 // Text rules: UTF-8 after the grammar of RFC 3629.
-ghost use Rattle.std.specs.Prelude.{◌≡◌, ℕ, ◌<◌, ◌≤◌, Some, drop, Decides, MatchOption, MatchResult};
+ghost use Rattle.std.specs.Prelude.{◌≡◌, ℕ, ◌<◌, ◌≤◌, drop, Decides, MatchOption, MatchResult};
 ghost use Rattle.encoding.specs.Scalars.{Rfc3629};
 ghost use Rattle.encoding.specs.Utf8.{Text, size_of, Char, Front, Tail, Second, Chars, Begins, Reaches, Unreadable, Boundary, Boundaries, first_bytes};
 
@@ -41,22 +41,15 @@ fn second(b0: u8, b1: u8) -> bool
     }
 }
 
-// Whether b begins a character of n bytes.
-fn begins(b: u8, n: usize) -> bool
-    ensures { Decides result (size_of b ≡ Some n) }
-{
-    char_size(b) == Some(n)
-}
-
 // Whether the bytes are one character.
 fn is_char(c: &[u8]) -> bool
     ensures { Decides result (Char c.now) }
 {
     match *c {
-        [a] => begins(a, 1),
-        [a, b] => begins(a, 2) && tail(b),
-        [a, b, c] => begins(a, 3) && second(a, b) && tail(c),
-        [a, b, c, d] => begins(a, 4) && second(a, b) && tail(c) && tail(d),
+        [0x00..=0x7f] => true,
+        [0xc2..=0xdf, b] => tail(b),
+        [a @ 0xe0..=0xef, b, c] => second(a, b) && tail(c),
+        [a @ 0xf0..=0xf4, b, c, d] => second(a, b) && tail(c) && tail(d),
         _ => false,
     }
 }
@@ -67,14 +60,9 @@ pub fn first_char(s: &[u8]) -> Option<(usize, &[u8])>
     ensures { MatchOption result ((n : ℕ) → Front s.now n → ⊥)
         (λ p. Front s.now p.0 × (p.1.now ≡ drop p.0 s.now)) }
 {
-    // An arm for each size: where the size is read first, the next character waits for it.
-    match s {
-        [a, rest @ ..] if is_char(&[*a]) => Some((1, rest)),
-        [a, b, rest @ ..] if is_char(&[*a, *b]) => Some((2, rest)),
-        [a, b, c, rest @ ..] if is_char(&[*a, *b, *c]) => Some((3, rest)),
-        [a, b, c, d, rest @ ..] if is_char(&[*a, *b, *c, *d]) => Some((4, rest)),
-        _ => None,
-    }
+    let n = char_size(*s.first()?)?;
+    let (c, rest) = s.split_at_checked(n)?;
+    is_char(c).then_some((n, rest))
 }
 
 /// Whether the bytes are text; else where the first unreadable character begins.
